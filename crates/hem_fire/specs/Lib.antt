@@ -1,0 +1,2 @@
+pub mod OneFire
+pub mod OneRule

@@ -1,0 +1,4 @@
+pub mod Protocol
+pub mod Local
+pub mod Guard
+pub mod Template

@@ -1,0 +1,12 @@
+//! Protocols as plain values, and the definitions that all contracts cite.
+#![tactic(auto)]
+
+mod protocol;
+mod rule;
+mod state;
+
+pub use protocol::{KindPart, Protocol};
+pub use rule::{
+    Assign, Atom, Class, Clause, Hold, Need, Origin, Rule, SendTo, Side, Take, TemplateName, Value,
+};
+pub use state::{By, Lock, View};

@@ -1,0 +1,5 @@
+pub mod Cut
+pub mod Reversed
+pub mod Ways
+pub mod Runs
+pub mod FirstFaults

@@ -1,0 +1,32 @@
+use Rattle.std.specs.Prelude.{◌≡◌, ℕ, ◌+◌, ◌≤◌, List, length, map, drop, Option, Some, None, slice_get}
+use Rattle.hem_base.specs.declared.text.Token.{Token}
+use Rattle.hem_base.specs.declared.text.Place.{Place}
+use Rattle.hem_base.specs.Tokens.{end_place}
+use Rattle.hem_base.specs.Machine.{Grammar, State, Lexeme, lexeme_of, Reads, IsFault}
+use Rattle.hem_text.specs.declared.reader.TextError.{TextError}
+use Rattle.hem_text.specs.declared.reader.TextFault.{TextFault}
+use Rattle.hem_text.specs.declared.machine.Refusal.{Refusal}
+use Rattle.hem_text.specs.declared.machine.Refusal.TheVariants as refusal
+use Rattle.hem_text.specs.declared.reader.TextError.TheVariants.{Text, OutOfMemory}
+
+-- the place of a token, or of the end
+abbrev pub place_in : List ℕ → Option Token → Place
+place_in bytes None = end_place bytes
+place_in bytes (Some t) = t.place
+
+abbrev pub place_of : List ℕ → List Token → ℕ → Place
+place_of bytes tokens k = place_in bytes (slice_get tokens k)
+
+-- no document stands at the front
+abbrev pub ReadsNothing : {E T I : Type 0} → Grammar E T I → State E T I → List Lexeme → Type 0
+ReadsNothing {E} g s ts = (n : ℕ) (e : E) → Reads g s ts n e → ⊥
+
+-- a refusal is the first fault of the tokens from at on, and no document stands there, unless memory ran out
+abbrev pub IsFirstFault : {E T I : Type 0} → Grammar E T I → State E T I → List ℕ → List Token → ℕ → TextError → Type 0
+IsFirstFault g s bytes tokens at OutOfMemory = Unit {0}
+IsFirstFault g s bytes tokens at (Text f) =
+    (k : ℕ) × IsFault g s (map (lexeme_of bytes) (drop at tokens)) k f.cause × (f.place ≡ place_of bytes tokens (at + k)) × ReadsNothing g s (map (lexeme_of bytes) (drop at tokens))
+
+abbrev pub refused_at : Place → Refusal → TextError
+refused_at place (refusal.Fault c) = Text (record { place = place; cause = c })
+refused_at place refusal.OutOfMemory = OutOfMemory

@@ -1,0 +1,17 @@
+//! The tokens of a text, and one reader for all grammars in which the next token decides.
+#![tactic(auto)]
+
+mod language;
+mod machine;
+mod piece;
+mod reader;
+mod stack;
+mod token;
+
+pub use hem_base::{Cause, Place, Token, TokenKind};
+pub use language::Language;
+pub use machine::{Refusal, step};
+pub use piece::place_after;
+pub use reader::{TextError, TextFault, read};
+pub use stack::Stack;
+pub use token::tokens;

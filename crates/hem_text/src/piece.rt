@@ -1,0 +1,133 @@
+//! One piece of a text: a token, or bytes between tokens.
+
+ghost use Rattle.std.specs.Prelude.{◌≡◌, ◌+◌, ◌^◌, ◌<◌, ◌≤◌, length, fold, take};
+ghost use Rattle.std.specs.List.{prefix_len, list_all};
+ghost use Rattle.std.specs.Char.{is_ascii_digit};
+ghost use Rattle.hem_base.specs.Tokens.{is_space, is_word_byte, is_sign, is_not_newline, is_pair, run_kind, piece_of, advance};
+
+use hem_base::{Piece, Place, TokenKind};
+
+fn is_space(b: u8) -> bool
+    ensures { result ≡ is_space b }
+{
+    b == b' ' || b == b'\t' || b == b'\r' || b == b'\n'
+}
+
+fn is_word_byte(b: u8) -> bool
+    ensures { result ≡ is_word_byte b }
+{
+    b.is_ascii_alphabetic() || b.is_ascii_digit() || b == b'_'
+}
+
+fn is_sign(b: u8) -> bool
+    ensures { result ≡ is_sign b }
+{
+    b == b'(' || b == b')' || b == b',' || b == b'=' || b == b'|'
+}
+
+fn comment_len(bytes: &[u8]) -> usize
+    ensures same { result ≡ prefix_len is_not_newline bytes.now }
+    ensures within { result ≤ length bytes.now }
+{
+    bytes.iter().take_while(|b| **b != b'\n').count()
+}
+
+fn word_len(bytes: &[u8]) -> usize
+    ensures same { result ≡ prefix_len is_word_byte bytes.now }
+    ensures within { result ≤ length bytes.now }
+{
+    bytes.iter().take_while(|b| is_word_byte(**b)).count()
+}
+
+fn all_digits(run: &[u8]) -> bool
+    ensures { result ≡ list_all is_ascii_digit run.now }
+{
+    run.iter().all(|b| b.is_ascii_digit())
+}
+
+fn run_kind(run: &[u8]) -> TokenKind
+    ensures { result ≡ run_kind run.now }
+{
+    match run {
+        [] => TokenKind::Bad,
+        [first, ..] => {
+            if first.is_ascii_alphabetic() {
+                TokenKind::Word
+            } else if all_digits(run) {
+                TokenKind::Number
+            } else {
+                TokenKind::Bad
+            }
+        }
+    }
+}
+
+fn is_pair(bytes: &[u8]) -> bool
+    ensures { result ≡ is_pair bytes.now }
+{
+    match bytes {
+        [first, b'=', ..] => *first == b':' || *first == b'!',
+        _ => false,
+    }
+}
+
+pub fn piece_at(bytes: &[u8]) -> Piece
+    requires { 0 < length bytes.now }
+    ensures same { result ≡ piece_of bytes.now }
+    ensures some { 0 < result.len }
+    ensures within { result.len ≤ length bytes.now }
+{
+    let first = bytes[0];
+    if is_space(first) {
+        Piece { kind: None, len: 1 }
+    } else if first == b'#' {
+        Piece {
+            kind: None,
+            len: comment_len(bytes),
+        }
+    } else if is_word_byte(first) {
+        let len = word_len(bytes);
+        Piece {
+            kind: Some(run_kind(&bytes[..len])),
+            len,
+        }
+    } else if is_pair(bytes) {
+        Piece {
+            kind: Some(TokenKind::Sign),
+            len: 2,
+        }
+    } else if is_sign(first) {
+        Piece {
+            kind: Some(TokenKind::Sign),
+            len: 1,
+        }
+    } else {
+        Piece {
+            kind: Some(TokenKind::Bad),
+            len: 1,
+        }
+    }
+}
+
+/// The place after these bytes.
+pub fn place_after(place: Place, bytes: &[u8]) -> Place
+    requires line { place.line + length bytes.now < 2 ^ 32 }
+    requires column { place.column + length bytes.now < 2 ^ 32 }
+    requires first { 1 ≤ place.column }
+    ensures same { result ≡ fold advance place bytes.now }
+    ensures line { result.line ≤ place.line + length bytes.now }
+    ensures column { result.column ≤ place.column + length bytes.now }
+    ensures first { 1 ≤ result.column }
+{
+    let mut line = place.line;
+    let mut column = place.column;
+    for b in bytes {
+        if *b == b'\n' {
+            line += 1;
+            column = 1;
+        } else {
+            column += 1;
+        }
+    }
+    Place { line, column }
+}

@@ -1,0 +1,35 @@
+//! Tokens.
+
+ghost use Rattle.std.specs.Prelude.{◌≡◌, ◌<◌, length, All, IfOk};
+ghost use Rattle.hem_base.specs.Spans.{IsSpan};
+ghost use Rattle.hem_base.specs.Tokens.{tokens_of};
+
+use crate::piece::{piece_at, place_after};
+use hem_base::{OutOfMemory, Place, Token};
+use std::alloc::Global;
+
+/// The tokens of the text, in order.
+pub fn tokens(alloc: Global, bytes: &[u8]) -> Result<Vec<Token>, OutOfMemory>
+    requires { length bytes.now < 4294967295 }
+    ensures tokens { IfOk result (λ v. v.items ≡ tokens_of bytes.now) }
+    ensures spans { IfOk result (λ v. All (IsSpan bytes.now) v.items) }
+{
+    let mut out = Vec::new(alloc);
+    let mut at = 0;
+    let mut place = Place { line: 1, column: 1 };
+    while at < bytes.len() {
+        let piece = piece_at(&bytes[at..]);
+        let end = at + piece.len;
+        if let Some(kind) = piece.kind {
+            out.push(Token {
+                kind,
+                start: at,
+                end,
+                place,
+            })?;
+        }
+        place = place_after(place, &bytes[at..end]);
+        at = end;
+    }
+    Ok(out)
+}
