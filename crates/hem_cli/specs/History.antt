@@ -91,20 +91,3 @@ sends_to tree c e = e.firing.line.0 == c.line && reaches tree e.firing e.outs.to
 -- the place of the event that sent what event i takes from a channel: the k-th taken is the k-th sent
 abbrev pub sender : Tree → List Event → ℕ → Channel → Option ℕ
 sender tree es i c = slice_get (places_from (sends_to tree c) 0 es) (count_by (takes_from tree c) (take i es))
-
--- the number of the transaction of the next event, where those before have these numbers
-abbrev pub next_number : Tree → List Event → List ℕ → Event → ℕ
-next_number tree es done e =
-    elim (option_and_then (sender tree es (length done)) (slice_get (channels_taken tree e) 0)) [
-      | None ↦ length done
-      | Some j ↦ slice_index done j
-    ]
-
--- the numbers of the transactions of the rest of the events, after those of the first ones
-abbrev pub numbers_from : Tree → List Event → List ℕ → List Event → List ℕ
-numbers_from tree es done [] = done
-numbers_from tree es done (e ∷ rest) = numbers_from tree es (done ++ next_number tree es done e ∷ []) rest
-
--- the number of each event's transaction: the place of the transaction's first event
-abbrev pub numbers_of : Tree → List Event → List ℕ
-numbers_of tree es = numbers_from tree es [] es

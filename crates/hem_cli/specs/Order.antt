@@ -10,13 +10,14 @@ use Rattle.hem_syntax.specs.Protocol.{Protocol, rule_named}
 use Rattle.hem_cli.specs.Tree.{Tree, kind_of, level_of}
 use Rattle.hem_cli.specs.State.{State}
 use Rattle.hem_syntax.specs.Template.{template_of}
-use Rattle.hem_cli.specs.History.{Event, events, numbers_of}
+use Rattle.hem_cli.specs.History.{Event, events}
+use Rattle.hem_cli.specs.Tags.{numbers_of}
 use Rattle.hem_cli.specs.Blocks.{Block}
 
--- a firing at its place in a history: its transaction, the level of its object, and whether it sends a request up
+-- an event at its place in a history: its transaction, the level of its object, and whether it sends a request up
 pub record Entry : Type 0 where
   pub place : ℕ
-  pub firing : Firing
+  pub event : Event
   pub number : ℕ
   pub level : ℕ
   pub upward : Bool
@@ -37,7 +38,7 @@ abbrev pub entries_from : Protocol → Tree → ℕ → List Event → List ℕ 
 entries_from p tree k [] numbers = []
 entries_from p tree k (e ∷ es) [] = []
 entries_from p tree k (e ∷ es) (n ∷ numbers) =
-    record { place = k; firing = e.firing; number = n; level = level_of tree e.firing.object.0; upward = is_upward p tree e.firing }
+    record { place = k; event = e; number = n; level = level_of tree e.firing.object.0; upward = is_upward p tree e.firing }
     ∷ entries_from p tree (k + 1) es numbers
 
 -- the entries of a history
@@ -46,7 +47,7 @@ entries_of p tree s h = let es = events p tree s h in entries_from p tree 0 es (
 
 -- whether a's object stands above b's: of less level, or of the same level and of less number
 abbrev pub is_higher : Entry → Entry → Bool
-is_higher a b = nat_lt a.level b.level || (a.level == b.level && nat_lt a.firing.object.0 b.firing.object.0)
+is_higher a b = nat_lt a.level b.level || (a.level == b.level && nat_lt a.event.firing.object.0 b.event.firing.object.0)
 
 -- the first entry at the highest object
 abbrev pub highest : List Entry → Option Entry
@@ -75,19 +76,9 @@ with_moved es e =
 abbrev pub normal : List Entry → List Entry
 normal es = flat_map (with_moved es) es
 
--- an entry put before the first of its transaction that is moved or is the anchor
-abbrev pub put_before : List Entry → Entry → List Entry → List Entry
-put_before all e [] = e ∷ []
-put_before all e (x ∷ xs) = cond (x.number == e.number && (is_moved all x || x.place == anchor_of all e.number)) (e ∷ x ∷ xs) (x ∷ put_before all e xs)
-
--- the normal form of the rest of the entries, from its end on
-abbrev pub normal_rest : List Entry → List Entry → List Entry
-normal_rest all [] = []
-normal_rest all (e ∷ es) = cond (is_moved all e) (put_before all e (normal_rest all es)) (e ∷ normal_rest all es)
-
 -- whether two entries are at one object of one line
 abbrev pub same_object : Entry → Entry → Bool
-same_object a b = a.firing.line.0 == b.firing.line.0 && a.firing.object.0 == b.firing.object.0
+same_object a b = a.event.firing.line.0 == b.event.firing.line.0 && a.event.firing.object.0 == b.event.firing.object.0
 
 -- whether, in a normal form, a firing of t stands before one of u at some object
 abbrev pub stands_before : List Entry → ℕ → ℕ → Bool
@@ -105,7 +96,7 @@ next_out es left = find (λ u. not (list_any (λ t. is_before es t u) left)) lef
 
 -- the block of a transaction
 abbrev pub block_of : List Entry → ℕ → Block
-block_of es number = record { number = number; firings = map (λ e. e.firing) (entries_in number es) }
+block_of es number = record { number = number; firings = map (λ e. e.event.firing) (entries_in number es) }
 
 -- the blocks in the printed order, at most so many, of the transactions that aren't out
 abbrev pub printed_from : ℕ → List Entry → List ℕ → List Block

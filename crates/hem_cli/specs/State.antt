@@ -14,7 +14,7 @@ use Rattle.hem_fire.specs.declared.outs.Outs.{Outs}
 use Rattle.hem_cli.specs.declared.lane.Lane.{Lane}
 use Rattle.hem_cli.specs.declared.lane.Lane.TheVariants.{UpRequests, UpResponses, Down, Requests, Answers}
 use Rattle.hem_syntax.specs.Protocol.{Protocol, KindPart, part, rule_named}
-use Rattle.hem_cli.specs.Tree.{Tree, Node, below, kind_of, is_child, children_of, place_among}
+use Rattle.hem_cli.specs.Tree.{Tree, Node, below, kind_of, parent_of, is_child, children_of, place_among}
 use Rattle.hem_syntax.specs.Local.{Local}
 use Rattle.hem_fire.specs.OneFire.{Heads, can_fire, local_after, outs_of}
 
@@ -97,35 +97,42 @@ rule_effect p kind rule me local heads =
     (Some (record { after = local_after p kind rule me local heads; took = taken_heads outs heads; outs = outs }))
     None
 
--- the effect of a firing on a line, where it is possible
-abbrev pub effect_of : Protocol → Tree → Line → Firing → Option Effect
-effect_of p tree line f =
+-- the effect of a firing at its object with this local state and these heads, where it is possible there
+abbrev pub own_effect : Protocol → Tree → Firing → Local → Heads → Option Effect
+own_effect p tree f local heads =
     let o = f.object.0 in
-    option_and_then (λ cell.
     option_and_then (λ kind.
     option_and_then (λ rule.
     cond (is_own_child tree o f.me)
-    (rule_effect p kind rule (place_of_me tree o f.me) cell.local (heads_of tree line o f.me))
+    (rule_effect p kind rule (place_of_me tree o f.me) local heads)
     None)
     (rule_named p kind f.rule))
-    (kind_of tree o))
-    (slice_get line o)
+    (kind_of tree o)
 
--- whether an object takes from a list, if any does
-abbrev pub is_taker : Tree → ℕ → ℕ → Lane → Bool
-is_taker tree o k UpRequests = is_child tree k o
-is_taker tree o k UpResponses = is_child tree k o
-is_taker tree o k Down = k == o
-is_taker tree o k Requests = k == o
-is_taker tree o k Answers = false
+-- the local state of an object on a line
+abbrev pub local_at : Line → ℕ → Option Local
+local_at line o = option_map (λ cell. cell.local) (slice_get line o)
 
--- whether an object sends to a list, if any does
-abbrev pub is_sender : Tree → ℕ → ℕ → Lane → Bool
-is_sender tree o k UpRequests = k == o
-is_sender tree o k UpResponses = k == o
-is_sender tree o k Down = is_child tree k o
-is_sender tree o k Requests = false
-is_sender tree o k Answers = k == o
+-- the effect of a firing on a line, where it is possible
+abbrev pub effect_of : Protocol → Tree → Line → Firing → Option Effect
+effect_of p tree line f =
+    option_and_then (λ local. own_effect p tree f local (heads_of tree line f.object.0 f.me)) (local_at line f.object.0)
+
+-- the object that takes from a list, if any does
+abbrev pub taker_of : Tree → ℕ → Lane → Option ℕ
+taker_of tree k UpRequests = parent_of tree k
+taker_of tree k UpResponses = parent_of tree k
+taker_of tree k Down = Some k
+taker_of tree k Requests = Some k
+taker_of tree k Answers = None
+
+-- the object that sends to a list, if any does
+abbrev pub sender_of : Tree → ℕ → Lane → Option ℕ
+sender_of tree k UpRequests = Some k
+sender_of tree k UpResponses = Some k
+sender_of tree k Down = parent_of tree k
+sender_of tree k Requests = None
+sender_of tree k Answers = Some k
 
 -- whether a firing takes the head of a list
 abbrev pub takes : Tree → Firing → Outs → ℕ → Lane → Bool

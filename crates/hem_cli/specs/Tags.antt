@@ -28,3 +28,7 @@ numbers_by_tags tree tags place [] = []
 numbers_by_tags tree tags place (e ∷ es) =
     let n = number_at tree tags place e in
     n ∷ numbers_by_tags tree (tags_after tree tags e n) (place + 1) es
+
+-- the number of each event's transaction: the place of the transaction's first event
+abbrev pub numbers_of : Tree → List Event → List ℕ
+numbers_of tree es = numbers_by_tags tree no_tags 0 es

@@ -67,6 +67,11 @@ abbrev pub asker : Option Lock → Option By
 asker None = None
 asker (Some lock) = elim lock.by [ Processor ↦ Some Processor | Kid c ↦ Some (Kid c) | _ ↦ None ]
 
+-- the holder of a lock, where that is a child
+abbrev pub kid_asker : Option Lock → Option By
+kid_asker None = None
+kid_asker (Some lock) = elim lock.by [ Kid c ↦ Some (Kid c) | _ ↦ None ]
+
 -- for whom a rule works that takes from a child, or on a leaf from the processor
 abbrev pub requester : Option ℕ → By
 requester None = Processor
@@ -80,7 +85,7 @@ view_of (take.Parent id) me local heads =
     record { me = asker local.up; msg = value_in heads.parent; rs = None; kept = request_of local.up; awaited = nobody }
 view_of (take.Kids id) me local heads =
     record {
-      me = asker local.down;
+      me = kid_asker local.down;
       msg = None;
       rs = option_and_then (λ k. value_in k.1) (slice_get (awaited_heads local heads) 0);
       kept = request_of local.down;
@@ -156,12 +161,16 @@ assign_names local view (assign.Val v) = is_some (value_of v local view)
 assign_names local view (assign.Me s) = list_any (λ k. is_requester view k.0) (kids_of local)
 assign_names local view (assign.Targets s) = not (view.awaited.0 == 0)
 
+-- an object of the kind has a parent
+abbrev pub has_parent : Kind → Bool
+has_parent Root = false
+has_parent _ = true
+
 -- everything that the send names exists, and it reaches somebody
 abbrev pub send_names : Kind → SendTo → Local → View → Bool
 send_names kind send.Nothing local view = true
 send_names kind (send.Me id v) local view = has_requester view && is_some (value_of v local view)
-send_names Root (send.Parent id v) local view = false
-send_names _ (send.Parent id v) local view = is_some (value_of v local view)
+send_names kind (send.Parent id v) local view = has_parent kind && is_some (value_of v local view)
 send_names kind (send.Kids set id v) local view = is_some (value_of v local view) && not ((targets_of (send.Kids set id v) local view).0 == 0)
 send_names kind (send.Others set id v) local view = has_requester view && is_some (value_of v local view) && not ((targets_of (send.Others set id v) local view).0 == 0)
 
