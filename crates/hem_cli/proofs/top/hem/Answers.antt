@@ -1,0 +1,6 @@
+use Rattle.hem_cli.proofs.Once.{delivered_whole}
+use Rattle.hem_cli.proofs.top.hem.Goals as goal
+
+pub returns-in-Ok-clause-complete : goal.returns-in-Ok-clause-complete
+returns-in-Ok-clause-complete g c =
+    delivered_whole _ _ _ _ _ _ _ _ _ c.in-Ok.ensures.says c.deliver.ensures.whole
