@@ -3,7 +3,9 @@
 /// A place in a text: line and column, both from 1, the column in bytes.
 #[derive(Clone, Copy, Debug, PartialEq, Eq)]
 pub struct Place {
+    /// The line, from 1. A line feed ends a line.
     pub line: u32,
+    /// The column in bytes, from 1.
     pub column: u32,
 }
 
@@ -11,25 +13,35 @@ pub struct Place {
 /// every other byte that is no sign.
 #[derive(Clone, Copy, Debug, PartialEq, Eq)]
 pub enum TokenKind {
+    /// A letter, and then letters, digits and `_`.
     Word,
+    /// Digits alone.
     Number,
+    /// One of `(`, `)`, `,`, `=`, `|`, `:=` and `!=`.
     Sign,
+    /// Bytes that are none of these.
     Bad,
 }
 
 /// A token: the bytes of the text from `start` to before `end`, and the place where it begins.
 #[derive(Clone, Copy, Debug, PartialEq, Eq)]
 pub struct Token {
+    /// What it is.
     pub kind: TokenKind,
+    /// Where its first byte stands in the text, from 0.
     pub start: usize,
+    /// Where the byte after its last stands, or would stand.
     pub end: usize,
+    /// The place of its first byte.
     pub place: Place,
 }
 
 /// What stands at the front of a text: a token of this kind or bytes between tokens, and its length in bytes.
 #[derive(Clone, Copy, Debug, PartialEq, Eq)]
 pub struct Piece {
+    /// The kind of the token, or `None` for a space or a comment.
     pub kind: Option<TokenKind>,
+    /// Its length in bytes.
     pub len: usize,
 }
 
@@ -37,8 +49,12 @@ pub struct Piece {
 /// would be right but passes a limit.
 #[derive(Clone, Copy, Debug, PartialEq, Eq)]
 pub enum Cause {
+    /// A name stands where only declared names may, and it is none of them.
     Unknown,
+    /// It repeats what may be said once.
     Repeated,
+    /// Another token is expected there.
     Expected,
+    /// It would be right, but passes a limit.
     TooMany,
 }
