@@ -1,4 +1,5 @@
 pub mod Cut
+pub mod Order
 pub mod Reversed
 pub mod Ways
 pub mod Runs

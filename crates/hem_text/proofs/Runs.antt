@@ -6,7 +6,8 @@ use Rattle.std.proofs.lemmas.List.{take-take, take-append-drop, length-take, len
 use Rattle.std.specs.Prelude.{option_and_then, slice_get, is_some}
 use Rattle.hem_base.specs.declared.text.Cause.{Cause}
 use Rattle.hem_base.specs.declared.text.Cause.TheVariants.{TooMany, Repeated, Expected}
-use Rattle.hem_base.specs.Machine.{Grammar, Lexeme, State, Way, Rules, full, unlimited, repeating, allows, goes, next, run, begins, way_at, local_cause, local_cause_at, lost_cause, cause_of, state, Reads, IsFault, ways}
+use Rattle.hem_base.specs.Machine.{Grammar, Lexeme, State, Way, Rules, full, unlimited, repeating, goes, next, run, way_at, lost_cause, cause_of, state, Reads, IsFault}
+use Rattle.hem_text.specs.Refused.{local_cause, local_cause_at}
 
 -- what may come by all rules may come by fewer
 goes_wider : {E T I : Type 0} (r : Rules) (g : Grammar E T I) (e : E) (t : Lexeme) (w : Way T I) (u : State E T I) → goes full g e t w ≡ Some u → goes r g e t w ≡ Some u
@@ -145,10 +146,27 @@ fault_excludes g s ts n k e cause reads fault = ⊎_elim early late (order k n)
         let parts = ap (λ l. run full g s l) (cut_take ts (k + 1) n (omega arith)) ∙ run-append full g s (take (k + 1) ts) (drop (k + 1) (take n ts)) in
         let step = and_then_ok (λ u. run full g u (drop (k + 1) (take n ts))) (run full g s (take (k + 1) ts)) (state e []) (sym parts ∙ reads.runs) in
         some_not_none _ step.0 step.1 (fault.here (omega (arith, reads.within)))
+
     late : n ≤ k → ⊥
     late le =
         let parts = ap (λ l. run full g s l) (cut_take ts n k le) ∙ run-append full g s (take n ts) (drop n (take k ts)) in
         fault.unended (run-ended full g e (drop n (take k ts)) fault.at (rw reads.runs at (sym parts ∙ fault.before)))
+
+no_earlier : {E T I : Type 0} (g : Grammar E T I) (s : State E T I) (ts : List Lexeme) (j k : ℕ) (c d : Cause) → IsFault g s ts j c → IsFault g s ts k d → j < k → ⊥
+no_earlier g s ts j k c d first second lt =
+    let parts = ap (λ l. run full g s l) (cut_take ts (j + 1) k (omega arith)) ∙ run-append full g s (take (j + 1) ts) (drop (j + 1) (take k ts)) in
+    let step = and_then_ok (λ u. run full g u (drop (j + 1) (take k ts))) (run full g s (take (j + 1) ts)) second.at (sym parts ∙ second.before) in
+    some_not_none _ step.0 step.1 (first.here (omega (arith, second.within)))
+
+some_alike : {A : Type 0} (a b : A) → Some a ≡ Some b → a ≡ b
+some_alike a b h = cc
+
+-- there is one fault at most
+pub fault_once : {E T I : Type 0} (g : Grammar E T I) (s : State E T I) (ts : List Lexeme) (j k : ℕ) (c d : Cause) → IsFault g s ts j c → IsFault g s ts k d → (j ≡ k) × (c ≡ d)
+fault_once g s ts j k c d first second =
+    let same : j ≡ k = ⊎_elim (λ lt. absurd (no_earlier g s ts j k c d first second lt)) (λ le. ⊎_elim (λ lt. absurd (no_earlier g s ts k j d c second first lt)) (λ ge. omega arith) (order k j)) (order j k) in
+    let at = some_alike _ _ (sym first.before ∙ ap (λ n. run full g s (take n ts)) same ∙ second.before) in
+    (same, first.why ∙ ap (λ n. cause_of g s ts n first.at) same ∙ ap (cause_of g s ts k) at ∙ sym second.why)
 
 -- the first token after an end is not read
 run-beyond : {E T I : Type 0} (g : Grammar E T I) (e : E) (ts : List Lexeme) (u : State E T I) → run full g (state e []) ts ≡ Some u → length ts ≡ 0

@@ -1,13 +1,15 @@
-//! What a grammar is.
+//! What a reader asks of a grammar.
 
 ghost use Rattle.std.specs.Prelude.{◌≡◌, OnOk, IsTrue};
 ghost use Rattle.hem_base.specs.Machine.{Grammar, lexeme};
 
 use hem_base::{OutOfMemory, Place, Stands, Symbol, TokenKind};
 
-/// A grammar, and what has been read of a document.
+/// A grammar, at what has been read so far of a document.
 pub trait Language {
+    /// The tokens, by what they mean.
     type Terminal: Copy + 'static;
+    /// The items: what may stand at a place, or repeatedly.
     type Item: Copy + 'static;
 
     ghost grammar: { Grammar Self Self.Terminal Self.Item };
@@ -20,6 +22,7 @@ pub trait Language {
     fn follows(terminal: Self::Terminal) -> &'static [Symbol<Self::Terminal, Self::Item>]
         ensures { result.now ≡ grammar.follows terminal };
 
+    /// Whether a token is a reserved word, a used name or something else.
     fn stands(terminal: Self::Terminal) -> Stands
         ensures { result ≡ grammar.stands terminal };
 
@@ -27,15 +30,25 @@ pub trait Language {
     fn is_name(kind: TokenKind, text: &[u8], place: Place) -> bool
         ensures { result ≡ grammar.is_name (lexeme kind text.now place) };
 
+    /// Whether a token is spelled so, and declared if it is a used name.
     fn spells(&self, terminal: Self::Terminal, kind: TokenKind, text: &[u8], place: Place) -> bool
         ensures { result ≡ grammar.spells self.now terminal (lexeme kind text.now place) };
 
-    fn is_within(&self, terminal: Self::Terminal, kind: TokenKind, text: &[u8], place: Place) -> bool
+    /// Whether a token that is spelled so keeps the limits.
+    fn is_within(
+        &self,
+        terminal: Self::Terminal,
+        kind: TokenKind,
+        text: &[u8],
+        place: Place,
+    ) -> bool
         ensures { result ≡ grammar.is_within self.now terminal (lexeme kind text.now place) };
 
+    /// Whether a token that is spelled so repeats nothing that must not be repeated.
     fn is_fresh(&self, terminal: Self::Terminal, kind: TokenKind, text: &[u8], place: Place) -> bool
         ensures { result ≡ grammar.is_fresh self.now terminal (lexeme kind text.now place) };
 
+    /// Takes in a token.
     fn read(
         &mut self,
         terminal: Self::Terminal,

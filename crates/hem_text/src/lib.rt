@@ -10,8 +10,10 @@ mod token;
 
 pub use hem_base::{Cause, Place, Token, TokenKind};
 pub use language::Language;
-pub use machine::{Refusal, step};
 pub use piece::place_after;
 pub use reader::{TextError, TextFault, read};
 pub use stack::Stack;
-pub use token::tokens;
+pub use token::{Cursor, tokens};
+
+#[cfg(test)]
+mod tests;

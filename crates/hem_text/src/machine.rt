@@ -3,7 +3,7 @@
 ghost use Rattle.std.specs.Prelude.{◌≡◌, ◌<◌, ◌≤◌, length, drop, find, Some, OnOk, IfErr, IfSome, IsTrue};
 ghost use Rattle.std.specs.List.{list_any, list_all};
 ghost use Rattle.std.specs.Option.{option_map};
-ghost use Rattle.hem_base.specs.Machine.{Grammar, lexeme, state, heads, can_pass, comes_again, way_into, way_at, full, next, standing, is_used, is_plain, lost_cause, local_cause};
+ghost use Rattle.hem_base.specs.Machine.{Grammar, lexeme, state, heads, can_pass, comes_again, way_into, way_at, full, next, standing, is_used, is_plain, lost_cause};
 ghost use Rattle.hem_text.specs.Refused.{IsRefused};
 ghost use Rattle.hem_text.specs.declared.machine.Refusal.TheVariants.{OutOfMemory as Memory};
 
@@ -105,7 +105,11 @@ fn find_way<L: Language>(
     for depth in 0..stack.len() {
         let symbol = stack.at(depth);
         if let Some(terminal) = head_of(env, symbol, kind, text, place) {
-            let past = if comes_again(symbol) { depth } else { depth + 1 };
+            let past = if comes_again(symbol) {
+                depth
+            } else {
+                depth + 1
+            };
             return Some(Found { terminal, past });
         }
         if !can_pass(symbol) {

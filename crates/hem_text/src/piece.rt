@@ -3,7 +3,7 @@
 ghost use Rattle.std.specs.Prelude.{◌≡◌, ◌+◌, ◌^◌, ◌<◌, ◌≤◌, length, fold, take};
 ghost use Rattle.std.specs.List.{prefix_len, list_all};
 ghost use Rattle.std.specs.Char.{is_ascii_digit};
-ghost use Rattle.hem_base.specs.Tokens.{is_space, is_word_byte, is_sign, is_not_newline, is_pair, run_kind, piece_of, advance};
+ghost use Rattle.hem_base.specs.Tokens.{is_space, is_word_byte, is_sign, is_not_line_feed, is_pair, kind_of_run, piece_of, advance};
 
 use hem_base::{Piece, Place, TokenKind};
 
@@ -25,14 +25,16 @@ fn is_sign(b: u8) -> bool
     b == b'(' || b == b')' || b == b',' || b == b'=' || b == b'|'
 }
 
+/// How many bytes a comment at the front has.
 fn comment_len(bytes: &[u8]) -> usize
-    ensures same { result ≡ prefix_len is_not_newline bytes.now }
+    ensures same { result ≡ prefix_len is_not_line_feed bytes.now }
     ensures within { result ≤ length bytes.now }
 {
     bytes.iter().take_while(|b| **b != b'\n').count()
 }
 
-fn word_len(bytes: &[u8]) -> usize
+/// How many bytes the run at the front has.
+fn run_len(bytes: &[u8]) -> usize
     ensures same { result ≡ prefix_len is_word_byte bytes.now }
     ensures within { result ≤ length bytes.now }
 {
@@ -45,8 +47,9 @@ fn all_digits(run: &[u8]) -> bool
     run.iter().all(|b| b.is_ascii_digit())
 }
 
-fn run_kind(run: &[u8]) -> TokenKind
-    ensures { result ≡ run_kind run.now }
+/// What a run of letters, digits and `_` is.
+fn kind_of_run(run: &[u8]) -> TokenKind
+    ensures { result ≡ kind_of_run run.now }
 {
     match run {
         [] => TokenKind::Bad,
@@ -62,6 +65,7 @@ fn run_kind(run: &[u8]) -> TokenKind
     }
 }
 
+/// Whether `:=` or `!=` stands at the front.
 fn is_pair(bytes: &[u8]) -> bool
     ensures { result ≡ is_pair bytes.now }
 {
@@ -71,6 +75,7 @@ fn is_pair(bytes: &[u8]) -> bool
     }
 }
 
+/// What stands at the front.
 pub fn piece_at(bytes: &[u8]) -> Piece
     requires { 0 < length bytes.now }
     ensures same { result ≡ piece_of bytes.now }
@@ -86,9 +91,9 @@ pub fn piece_at(bytes: &[u8]) -> Piece
             len: comment_len(bytes),
         }
     } else if is_word_byte(first) {
-        let len = word_len(bytes);
+        let len = run_len(bytes);
         Piece {
-            kind: Some(run_kind(&bytes[..len])),
+            kind: Some(kind_of_run(&bytes[..len])),
             len,
         }
     } else if is_pair(bytes) {
@@ -109,7 +114,8 @@ pub fn piece_at(bytes: &[u8]) -> Piece
     }
 }
 
-/// The place after these bytes.
+/// The place just after these bytes, the first of which stands at `place`. Both lines and columns count from 1, and a
+/// column is a byte.
 pub fn place_after(place: Place, bytes: &[u8]) -> Place
     requires line { place.line + length bytes.now < 2 ^ 32 }
     requires column { place.column + length bytes.now < 2 ^ 32 }

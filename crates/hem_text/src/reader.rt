@@ -2,13 +2,13 @@
 
 ghost use Rattle.std.specs.Prelude.{◌≡◌, ◌+◌, ◌-◌, ◌<◌, ◌≤◌, length, map, drop, All, IfOk, IfErr};
 ghost use Rattle.hem_base.specs.Machine.{state, lexeme_of, Reads};
-ghost use Rattle.hem_text.specs.Faults.{IsFirstFault, refused_at};
+ghost use Rattle.hem_text.specs.Faults.{IsFirstFault, ReadsOnly, refused_at};
 ghost use Rattle.hem_base.specs.Spans.{IsSpan};
 
 use crate::language::Language;
 use crate::machine::{Refusal, step};
-use crate::stack::Stack;
 use crate::piece::place_after;
+use crate::stack::Stack;
 use hem_base::{Cause, Place, Token};
 
 /// The first fault of a text.
@@ -18,12 +18,14 @@ pub struct TextFault {
     pub cause: Cause,
 }
 
+/// Why a text wasn't read.
 #[derive(Clone, Copy, Debug, PartialEq, Eq)]
 pub enum TextError {
     Text(TextFault),
     OutOfMemory,
 }
 
+/// The answer to a token that wasn't read.
 fn refused_at(refusal: Refusal, place: Place) -> TextError
     ensures { result ≡ refused_at place refusal }
 {
@@ -33,7 +35,9 @@ fn refused_at(refusal: Refusal, place: Place) -> TextError
     }
 }
 
-/// Reads the document that begins at a token, and answers how many tokens stand before its end.
+/// Reads the document that begins at the token `at`, and answers the place of the first token after it. An answer
+/// `Text` is the first fault: its place is that of the first token at which no document goes on, or the end of the bytes.
+/// After an error `env` and `stack` hold what was read before it.
 pub fn read<L: Language>(
     env: &mut L,
     stack: &mut Stack<L::Terminal, L::Item>,
@@ -45,6 +49,7 @@ pub fn read<L: Language>(
     requires spans { All (IsSpan bytes.now) tokens.now }
     requires within { at ≤ length tokens.now }
     ensures ok { IfOk result (λ end. (at ≤ end) × Reads L.grammar (state env.old stack.old) (map (lexeme_of bytes.now) (drop at tokens.now)) (end - at) env.new) }
+    ensures only { IfOk result (λ end. ReadsOnly L.grammar (state env.old stack.old) (map (lexeme_of bytes.now) (drop at tokens.now)) (end - at) env.new) }
     ensures text { IfErr result (IsFirstFault L.grammar (state env.old stack.old) bytes.now tokens.now at) }
 {
     for i in at..tokens.len() {
@@ -52,7 +57,13 @@ pub fn read<L: Language>(
             return Ok(i);
         }
         let token = tokens[i];
-        match step(env, stack, token.kind, &bytes[token.start..token.end], token.place) {
+        match step(
+            env,
+            stack,
+            token.kind,
+            &bytes[token.start..token.end],
+            token.place,
+        ) {
             Ok(()) => {}
             Err(refusal) => return Err(refused_at(refusal, token.place)),
         }

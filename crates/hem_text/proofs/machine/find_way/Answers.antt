@@ -1,4 +1,4 @@
-use Rattle.std.proofs.Common.{◌≡◌, ◌+◌, cond, true, false, refl, sym, ap, ◌∙◌}
+use Rattle.std.proofs.Common.{◌≡◌, ◌+◌, cond, refl, sym}
 use Rattle.hem_base.specs.Machine.{lexeme, comes_again, heads}
 use Rattle.hem_text.proofs.Ways.{found_way, no_way, pass_way, find_passes}
 use Rattle.hem_text.proofs.machine.find_way.Goals as goal
@@ -8,9 +8,9 @@ pub returns-in-Some-clause-way : goal.returns-in-Some-clause-way
 returns-in-Some-clause-way g c =
     let t = lexeme c.args.kind c.args.text.now c.args.place in
     let k : c.if-comes_again.past ≡ cond (comes_again c.at-symbol.result) c.loop-depth.depth (c.loop-depth.depth + 1) = elim c.if-comes_again.branch [
-        | then-comes_again w ↦ rw (w.past-is, ← w.if-comes_again.ensures) refl
-        | else-comes_again w ↦ rw (w.past-is, ← w.if-comes_again.ensures) refl
-      ] in
+      | then-comes_again w ↦ rw (w.past-is, ← w.if-comes_again.ensures) refl
+      | else-comes_again w ↦ rw (w.past-is, ← w.if-comes_again.ensures) refl
+    ] in
     found_way g.L.Language.grammar c.args.env.now t c.args.stack.now c.loop-depth.depth c.at-symbol.result c.in-Some.terminal c.if-comes_again.past c.at-symbol.ensures c.in-Some.ensures c.loop-depth.invariant k
 
 pub returns-in-Some-clause-spelled : goal.returns-in-Some-clause-spelled
