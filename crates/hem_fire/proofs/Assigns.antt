@@ -1,5 +1,5 @@
 -- What the sets of a rule leave as it was.
-use Rattle.std.proofs.Common.{◌≡◌, refl, ap, List, [], ◌∷◌, ◌&&◌, ◌∙◌}
+use Rattle.std.proofs.Common.{◌≡◌, refl, List, [], ◌∷◌, ◌&&◌}
 use Rattle.std.proofs.Math.ListN.{length-set}
 use Rattle.std.specs.Prelude.{IsTrue, Bool, true, false}
 use Rattle.std.specs.List.{list_all}
@@ -8,7 +8,7 @@ use Rattle.hem_syntax.specs.declared.rule.Assign.TheVariants.{Field, Val, Me, Ta
 use Rattle.hem_syntax.specs.declared.rule.Value.TheVariants as value
 use Rattle.hem_syntax.specs.declared.state.View.{View}
 use Rattle.hem_syntax.specs.Local.{Local}
-use Rattle.hem_fire.specs.OneFire.{assign_own, in_turn, assign_names}
+use Rattle.hem_fire.specs.Changes.{assign_own, assign_names}
 
 -- a set of a field or of the value leaves all names that exist
 pub names-assign_own : (before : Local) (view : View) (a b : Assign) (local : Local) → assign_names (assign_own before view a local) view b ≡ assign_names local view b

@@ -1,12 +1,15 @@
 -- Rules of the one-step form.
-use Rattle.std.specs.Prelude.{ℕ, ◌≡◌, Bool, true, false, ◌&&◌, List, length, Option, None, Some, IsTrue}
+use Rattle.std.specs.Prelude.{ℕ, ◌≡◌, Bool, true, false, ◌&&◌, length, Option, None, Some, IsTrue}
 use Rattle.std.specs.List.{list_all}
 use Rattle.hem_base.specs.declared.ids.MsgId.{MsgId}
 use Rattle.hem_base.specs.declared.ids.Message.{Message}
 use Rattle.hem_base.specs.declared.ids.Kind.{Kind}
 use Rattle.hem_syntax.specs.declared.state.View.{View}
 use Rattle.hem_syntax.specs.Local.{Local, nobody}
-use Rattle.hem_fire.specs.OneFire.{Heads, requester, value_in, me_fits, takes_there, need_holds}
+use Rattle.hem_fire.specs.Heads.{takes_there}
+use Rattle.hem_fire.specs.View.{requester, value_in}
+use Rattle.hem_fire.specs.Locks.{need_holds}
+use Rattle.hem_fire.specs.OneFire.{Heads, me_fits}
 use Rattle.hem_syntax.specs.declared.rule.Rule.{Rule}
 use Rattle.hem_syntax.specs.declared.rule.Take.TheVariants as take
 use Rattle.hem_syntax.specs.declared.rule.Hold.TheVariants as hold

@@ -1,13 +1,16 @@
 //! What a firing sets.
 
-ghost use Rattle.std.specs.Prelude.{◌≡◌, ◌<◌, length, slice_set, unwrap_or, IsTrue};
+ghost use Rattle.std.specs.Prelude.{◌≡◌, ◌<◌, cond, length, slice_set, unwrap_or, IsTrue};
 ghost use Rattle.std.specs.List.{list_all};
-ghost use Rattle.hem_syntax.specs.Guard.{value_of};
-ghost use Rattle.hem_fire.specs.OneFire.{assign_own, in_turn, assign_names};
+ghost use Rattle.hem_syntax.specs.Guard.{value_of, is_requester};
+ghost use Rattle.hem_base.specs.Sets.{has_bit};
+ghost use Rattle.hem_fire.specs.Changes.{assign_own, assign_targets, assign_me, assigned, set_at, in_turn, assign_names};
 ghost use Rattle.hem_syntax.specs.Local.{Local};
 
+use crate::guard::is_requester;
+use crate::kids::has_kid;
 use crate::local::Local;
-use hem_base::Status8;
+use hem_base::{KidSet, Status8};
 use hem_syntax::{Assign, Value, View};
 
 /// The number that a name stands for, or 0, with this value of the object.
@@ -46,8 +49,56 @@ impl Local {
 }
 
 impl Local {
+    /// Sets the entry at a place, where that is wanted.
+    fn set_entry(&mut self, place: usize, status: Status8, wanted: bool)
+        requires { place < length self.old.dir }
+        ensures { self.new ≡ record self.old { dir = cond wanted (slice_set self.old.dir place status) self.old.dir } }
+    {
+        if wanted {
+            self.dir[place] = status;
+        }
+    }
+
+    /// Sets the entries of these children.
+    fn set_kids(&mut self, kids: KidSet, status: Status8)
+        ensures { self.new ≡ record self.old { dir = set_at status (has_bit kids.0) 0 self.old.dir } }
+    {
+        for place in 0..self.dir.len() {
+            self.set_entry(place, status, has_kid(kids, place));
+        }
+    }
+
+    /// Sets the requester's entry.
+    fn set_requester(&mut self, view: &View, status: Status8)
+        ensures { self.new ≡ record self.old { dir = set_at status (is_requester view.now) 0 self.old.dir } }
+    {
+        for place in 0..self.dir.len() {
+            self.set_entry(place, status, is_requester(view, place));
+        }
+    }
+
+    /// Makes one set of the awaited children's entries.
+    fn assign_targets_one(&mut self, set: Assign, view: &View)
+        ensures { self.new ≡ assign_targets view.now set self.old }
+    {
+        if let Assign::Targets(status) = set {
+            self.set_kids(view.awaited, status);
+        }
+    }
+
+    /// Makes one set of the requester's entry.
+    fn assign_me_one(&mut self, set: Assign, view: &View)
+        ensures { self.new ≡ assign_me view.now set self.old }
+    {
+        if let Assign::Me(status) = set {
+            self.set_requester(view, status);
+        }
+    }
+}
+
+impl Local {
     /// Makes the sets of fields and of the value. All values are those before.
-    pub(crate) fn assign_fields(&mut self, sets: &[Assign], view: &View)
+    fn assign_fields(&mut self, sets: &[Assign], view: &View)
         requires { IsTrue (list_all (assign_names self.old view.now) sets.now) }
         ensures { self.new ≡ in_turn (assign_own self.old view.now) sets.now self.old }
     {
@@ -55,5 +106,34 @@ impl Local {
         for set in sets {
             self.assign_one(val, *set, view);
         }
+    }
+
+    /// Makes the sets of the awaited children's entries.
+    fn assign_targets(&mut self, sets: &[Assign], view: &View)
+        ensures { self.new ≡ in_turn (assign_targets view.now) sets.now self.old }
+    {
+        for set in sets {
+            self.assign_targets_one(*set, view);
+        }
+    }
+
+    /// Makes the sets of the requester's entry.
+    fn assign_me(&mut self, sets: &[Assign], view: &View)
+        ensures { self.new ≡ in_turn (assign_me view.now) sets.now self.old }
+    {
+        for set in sets {
+            self.assign_me_one(*set, view);
+        }
+    }
+
+    /// Makes a firing's sets: those of fields and of the value first, then those of `targets`, then those of `me`.
+    /// All values are those before the firing, and of two sets of one place the later wins.
+    pub fn assign(&mut self, sets: &[Assign], view: &View)
+        requires { IsTrue (list_all (assign_names self.old view.now) sets.now) }
+        ensures { self.new ≡ assigned sets.now view.now self.old }
+    {
+        self.assign_fields(sets, view);
+        self.assign_targets(sets, view);
+        self.assign_me(sets, view);
     }
 }

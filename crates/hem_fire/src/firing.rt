@@ -2,7 +2,11 @@
 
 ghost use Rattle.std.specs.Prelude.{◌≡◌, length, IsSome, IsTrue, unwrap_or};
 ghost use Rattle.std.specs.List.{list_all};
-ghost use Rattle.hem_fire.specs.OneFire.{me_fits, has_id, takes_there, need_holds, can_fire, send_names, assign_names, outs_of, message_of, no_message, OneFire};
+ghost use Rattle.hem_fire.specs.Heads.{has_id, takes_there};
+ghost use Rattle.hem_fire.specs.Sends.{send_names, message_of, no_message};
+ghost use Rattle.hem_fire.specs.Locks.{need_holds};
+ghost use Rattle.hem_fire.specs.Changes.{assign_names};
+ghost use Rattle.hem_fire.specs.OneFire.{me_fits, can_fire, outs_of, OneFire};
 ghost use Rattle.hem_fire.specs.OneRule.{IsOneRule, view_of_me, can_begin};
 ghost use Rattle.hem_syntax.specs.Local.{Local};
 
@@ -198,6 +202,6 @@ pub fn fire(
 {
     let view = view_of_me(me, heads.me);
     let outs = outs_of(p, kind, rule, me, local, heads);
-    local.assign_fields(rule.sets.as_slice(), &view);
+    local.assign(rule.sets.as_slice(), &view);
     outs
 }

@@ -1,6 +1,4 @@
-use Rattle.std.proofs.Common.{arith, ◌≡◌, ◌<◌, length, IsTrue, ℕ, ◌+◌, List, [], ◌∷◌, drop-cons, add-one, drop, get_or, refl, ap, sym, ◌∙◌, subst}
-use Rattle.std.specs.List.{list_all}
-use Rattle.hem_fire.specs.OneFire.{assign_own, in_turn, assign_names}
+use Rattle.std.proofs.Common.{drop-cons, add-one, sym}
 use Rattle.hem_fire.proofs.Assigns.{all_names-assign_own, and_right}
 use Rattle.hem_fire.proofs.local.Local.assign_fields.Goals as goal
 

@@ -1,6 +1,6 @@
 use Rattle.std.proofs.Common.{◌≡◌, IsTrue, drop}
 use Rattle.std.specs.List.{list_all}
-use Rattle.hem_fire.specs.OneFire.{assign_own, in_turn, assign_names}
+use Rattle.hem_fire.specs.Changes.{assign_own, in_turn, assign_names}
 use Rattle.hem_fire.proofs.local.Local.assign_fields.Given as goal
 
 -- the sets that are left lead on to what all sets lead to, and their names exist
