@@ -35,7 +35,7 @@ line_events p tree line (f ∷ h) =
       | Some step ↦ record { firing = f; took = step.effect.took; outs = step.effect.outs } ∷ line_events p tree step.next h
     ]
 
--- a list of an object on a line
+-- a list of the state, by line, object and lane; all but the requests are channels
 pub record Channel : Type 0 where
   pub line : ℕ
   pub object : ℕ
@@ -49,7 +49,7 @@ sent_by tree c e = cond (e.firing.line.0 == c.line) (sends tree e.firing e.outs 
 abbrev pub takes_from : Tree → Channel → Event → Bool
 takes_from tree c e = e.firing.line.0 == c.line && takes tree e.firing e.outs c.object c.lane
 
--- the head of a list of an object as an event saw it
+-- the head of a list as an event took it
 abbrev pub head_seen : Tree → Event → ℕ → Lane → Option Message
 head_seen tree e k UpRequests = e.took.me
 head_seen tree e k UpResponses = option_and_then (λ head. head) (slice_get e.took.kids (place_among tree e.firing.object.0 k))
@@ -69,7 +69,7 @@ Sent tree es c = flat_map (sent_by tree c) es
 abbrev pub Taken : Tree → List Event → Channel → List Message
 Taken tree es c = flat_map (taken_by tree c) es
 
--- the channels that an event takes from, its requests left out, the least awaited child's first
+-- the channels that an event takes from, in the order of the children; a processor's requests are no channel
 abbrev pub channels_taken : Tree → Event → List Channel
 channels_taken tree e =
     let l = e.firing.line.0 in

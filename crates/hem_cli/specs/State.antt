@@ -23,7 +23,7 @@ abbrev pub map_each : {A B : Type 0} → (ℕ → A → B) → ℕ → List A �
 map_each f k [] = []
 map_each f k (x ∷ xs) = f k x ∷ map_each f (k + 1) xs
 
--- an object on a line: its local state, the three lists of its edge, and a leaf's requests and answers
+-- an object on a line: its local state, the three lists of the edge to its parent, and a leaf's requests and answers; a root has no edge, and its lists stay empty, as do the requests and answers of an object that is no leaf
 pub record Cell : Type 0 where
   pub local : Local
   pub up_requests : List Message
@@ -56,7 +56,7 @@ list_at line o lane = option_map_or (λ cell. list_of cell lane) (slice_get line
 abbrev pub head_at : Line → ℕ → Lane → Option Message
 head_at line o lane = slice_get (list_at line o lane) 0
 
--- the heads that an object sees; where no child is named, its own requests
+-- the heads of an object's input lists: the requests of the child that is named, or else of its processor, its parent's messages, each child's responses
 abbrev pub heads_of : Tree → Line → ℕ → Option ObjectId → Heads
 heads_of tree line o me =
     record {
@@ -65,7 +65,7 @@ heads_of tree line o me =
       kids = map (λ k. head_at line k UpResponses) (children_of tree o);
     }
 
--- what a firing does to its object, the heads that it took, and what it takes and sends
+-- what a firing does: the local state that it leaves, the heads that it took, and what it takes and sends
 pub record Effect : Type 0 where
   pub after : Local
   pub took : Heads
@@ -97,7 +97,7 @@ rule_effect p kind rule me local heads =
     (Some (record { after = local_after p kind rule me local heads; took = taken_heads outs heads; outs = outs }))
     None
 
--- the effect of a firing at its object with this local state and these heads, where it is possible there
+-- the effect of a firing at its object with this local state and these heads, where it is possible there: the kind has a rule of that name, and the child is one of the object's
 abbrev pub own_effect : Protocol → Tree → Firing → Local → Heads → Option Effect
 own_effect p tree f local heads =
     let o = f.object.0 in
@@ -206,7 +206,7 @@ step_of p tree s f =
 abbrev pub fire : Protocol → Tree → State → Firing → Option State
 fire p tree s f = option_map (λ step. step.next) (step_of p tree s f)
 
--- the firing leads from one state to the other
+-- the firing is possible in the old state and leads to the new one
 pub record Fires (p : Protocol) (tree : Tree) (old : State) (f : Firing) (new : State) : Type 0 where
   pub leads : fire p tree old f ≡ Some new
 
@@ -215,7 +215,7 @@ abbrev pub run : Protocol → Tree → State → List Firing → Option State
 run p tree s [] = Some s
 run p tree s (f ∷ h) = option_and_then (λ next. run p tree next h) (fire p tree s f)
 
--- the history leads from one state to the other
+-- the firings of the history are possible one after another, and lead from the old state to the new one
 pub record Runs (p : Protocol) (tree : Tree) (old : State) (h : List Firing) (new : State) : Type 0 where
   pub leads : run p tree old h ≡ Some new
 
@@ -246,7 +246,7 @@ first_cell p tree requests o node =
 abbrev pub first_line : Protocol → Tree → (ℕ → List Message) → Line
 first_line p tree requests = map_each (first_cell p tree requests) 0 tree
 
--- what is to be done: so many lines, so many self firings, and the requests of each line and object
+-- what is to be done: how many lines, how many self firings each object may make on a line, and the requests by line and object
 pub record Work : Type 0 where
   pub lines : ℕ
   pub self_count : ℕ
@@ -256,6 +256,6 @@ pub record Work : Type 0 where
 abbrev pub requests_of : Work → ℕ → ℕ → List Message
 requests_of work line o = slice_index_or (slice_index_or work.requests line []) o []
 
--- the state at the start
+-- the state at the start: all locks free, and all lists empty but the requests
 abbrev pub start : Protocol → Tree → Work → State
 start p tree work = map (λ l. first_line p tree (requests_of work l)) (below work.lines)

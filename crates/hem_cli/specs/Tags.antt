@@ -1,28 +1,26 @@
--- The number of each event's transaction, by tags that go along with the messages.
-use Rattle.std.specs.Prelude.{ℕ, ◌==◌, ◌+◌, Bool, true, false, cond, List, [], ◌∷◌, ◌++◌, drop, Option, None, Some, slice_get}
-use Rattle.std.specs.Option.{option_map_or}
-use Rattle.hem_cli.specs.declared.lane.Lane.{Lane}
+-- The number of each event's transaction: a message carries the number of the transaction of the firing that sent it.
+use Rattle.std.specs.Prelude.{ℕ, ◌+◌, cond, List, [], ◌∷◌, ◌++◌, drop, None, Some, slice_get, unwrap_or}
 use Rattle.hem_cli.specs.Tree.{Tree}
 use Rattle.hem_cli.specs.History.{Event, Channel, channels_taken, takes_from, sends_to}
 
--- of each list, the numbers of the transactions that its messages belong to
+-- of each list, the numbers that its messages carry, in order
 abbrev pub Tags : Type 0
 Tags = Channel → List ℕ
 
--- no tags
+-- no messages, so no numbers
 abbrev pub no_tags : Tags
 no_tags c = []
 
--- the tags after an event of that number
+-- the numbers that the messages carry after an event of that number: a taken message takes its number along, a sent one gets the event's
 abbrev pub tags_after : Tree → Tags → Event → ℕ → Tags
 tags_after tree tags e n c = drop (cond (takes_from tree c e) 1 0) (tags c) ++ cond (sends_to tree c e) (n ∷ []) []
 
--- the number of an event at that place: its place where it takes no message, else the tag of the message that it takes, of the least child's
+-- the number of an event: its own place where it takes nothing or a processor's request, else that of the message that it takes, of the least awaited child's
 abbrev pub number_at : Tree → Tags → ℕ → Event → ℕ
 number_at tree tags place e =
-    elim (slice_get (channels_taken tree e) 0) [ None ↦ place | Some c ↦ option_map_or (λ n. n) (slice_get (tags c) 0) place ]
+    elim (slice_get (channels_taken tree e) 0) [ None ↦ place | Some c ↦ unwrap_or (slice_get (tags c) 0) place ]
 
--- the numbers of the events from a place on
+-- the numbers of events, the first of which stands at that place
 abbrev pub numbers_by_tags : Tree → Tags → ℕ → List Event → List ℕ
 numbers_by_tags tree tags place [] = []
 numbers_by_tags tree tags place (e ∷ es) =
