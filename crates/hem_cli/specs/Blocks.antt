@@ -17,7 +17,7 @@ pub record Block : Type 0 where
   pub number : ℕ
   pub firings : List Firing
 
--- the event takes messages, no processor's request, and only what the block sent that begins at place first; each message carries the place at which the block that sent it begins
+-- the event takes messages, no processor's request, and only what was sent by the block that begins at place first: a message carries the place at which its sender's block begins
 pub record TakesWithin (tree : Tree) (tags : Tags) (first : ℕ) (e : Event) : Type 0 where
   pub some : channels_taken tree e ≢ []
   pub no_request : (e.outs.taken_me && is_none e.firing.me) ≡ false
@@ -33,7 +33,7 @@ abbrev pub AreClosed : Tree → Tags → ℕ → List Event → Type 0
 AreClosed tree tags first [] = Unit {0}
 AreClosed tree tags first (e ∷ es) = TakesWithin tree tags first e × AreClosed tree (tags_after tree tags e first) first es
 
--- the events are a block that begins at place first: all are of one line, the first takes nothing or a processor's request, and each later one takes only what the block sent
+-- the events are a block that begins at place first: one line, the first takes nothing or a processor's request, each later one takes only what the block sent
 abbrev pub IsBlock : Tree → Tags → ℕ → List Event → Type 0
 IsBlock tree tags first [] = ⊥
 IsBlock tree tags first (e ∷ es) =

@@ -23,7 +23,7 @@ abbrev pub map_each : {A B : Type 0} → (ℕ → A → B) → ℕ → List A �
 map_each f k [] = []
 map_each f k (x ∷ xs) = f k x ∷ map_each f (k + 1) xs
 
--- an object on a line: its local state, the three lists of the edge to its parent, and a leaf's requests and answers; a root has no edge, and its lists stay empty, as do the requests and answers of an object that is no leaf
+-- an object on a line: its local state, the three lists of the edge to its parent, and a leaf's requests and answers; lists that an object lacks stay empty
 pub record Cell : Type 0 where
   pub local : Local
   pub up_requests : List Message
@@ -56,7 +56,7 @@ list_at line o lane = option_map_or (λ cell. list_of cell lane) (slice_get line
 abbrev pub head_at : Line → ℕ → Lane → Option Message
 head_at line o lane = slice_get (list_at line o lane) 0
 
--- the heads of an object's input lists: the requests of the child that is named, or else of its processor, its parent's messages, each child's responses
+-- the heads of an object's input lists: the named child's or else the processor's requests, the parent's messages, each child's responses
 abbrev pub heads_of : Tree → Line → ℕ → Option ObjectId → Heads
 heads_of tree line o me =
     record {
@@ -97,7 +97,7 @@ rule_effect p kind rule me local heads =
     (Some (record { after = local_after p kind rule me local heads; took = taken_heads outs heads; outs = outs }))
     None
 
--- the effect of a firing at its object with this local state and these heads, where it is possible there: the kind has a rule of that name, and the child is one of the object's
+-- the effect of a firing at its object with this local state and these heads, where it is possible there
 abbrev pub own_effect : Protocol → Tree → Firing → Local → Heads → Option Effect
 own_effect p tree f local heads =
     let o = f.object.0 in

@@ -1,0 +1,16 @@
+pub mod Names
+pub mod RootRules
+pub mod MidRules
+pub mod LeafRules
+pub mod Msi
+pub mod Templates
+pub mod Trees
+pub mod Examples
+pub mod OneLoad
+pub mod SingleLoad
+pub mod FiredTwice
+pub mod OvertakenEviction
+pub mod InterleavedStores
+pub mod UnfinishedStores
+pub mod LateHit
+pub mod SecondFanOut
