@@ -16,6 +16,7 @@ use Rattle.hem_cli.specs.declared.lane.Lane.TheVariants.{UpRequests, UpResponses
 use Rattle.hem_syntax.specs.Protocol.{Protocol, KindPart, part, rule_named}
 use Rattle.hem_cli.specs.Tree.{Tree, Node, below, kind_of, parent_of, is_child, children_of, place_among}
 use Rattle.hem_syntax.specs.Local.{Local}
+use Rattle.hem_fire.specs.Start.{first_local}
 use Rattle.hem_fire.specs.OneFire.{Heads, can_fire, local_after, outs_of}
 
 -- a function of place and element, at each element, the first at place k
@@ -218,17 +219,6 @@ run p tree s (f ∷ h) = option_and_then (λ next. run p tree next h) (fire p tr
 -- the firings of the history are possible one after another, and lead from the old state to the new one
 pub record Runs (p : Protocol) (tree : Tree) (old : State) (h : List Firing) (new : State) : Type 0 where
   pub leads : run p tree old h ≡ Some new
-
--- a local state at the start: the first statuses, the value 0, both locks free
-abbrev pub first_local : Protocol → Kind → ℕ → Local
-first_local p kind children =
-    record {
-      fields = map (λ f. f.1) (part p kind).fields;
-      dir = option_map_or (λ s. map (λ k. s) (below children)) (part p kind).dir [];
-      val = 0;
-      up = None;
-      down = None;
-    }
 
 -- an object's state at the start, with its requests
 abbrev pub first_cell : Protocol → Tree → (ℕ → List Message) → ℕ → Node → Cell
