@@ -1,9 +1,14 @@
 //! An object on a line.
 
-ghost use Rattle.std.specs.Prelude.{◌≡◌, ◌≤◌, length};
+ghost use Rattle.std.specs.Prelude.{◌≡◌, ◌≤◌, cond, length, slice_get, [], IfOk, OnErr, None};
+ghost use Rattle.hem_fire.specs.OneRule.{IsOneRule};
+ghost use Rattle.hem_cli.specs.Leaves.{quiet_cell, leaf_heads, can_leaf, leaf_after};
 
-use hem_base::{List, Message};
-use hem_fire::Local;
+use arrayvec::ArrayVec;
+use hem_base::{Kind, List, Message, OutOfMemory};
+use hem_fire::{Heads, Local, can, fire};
+use hem_syntax::{Protocol, Rule};
+use std::alloc::Global;
 use std::marker::Model;
 
 /// An object on a line of a one-step document: its local state, its processor's requests, of which the first
@@ -13,7 +18,7 @@ pub(crate) struct Cell {
     local: Local,
     requests: List<Message>,
     taken: usize,
-    answers: List<Message>,
+    answers: Vec<Message>,
     ghost within: { taken ≤ length requests },
 }
 
@@ -23,10 +28,22 @@ impl Model for Cell {
 
     ghost Value = { Seen };
 
-    ghost view = { λ a. record { local = a.local; up_requests = []; up_responses = []; down = []; requests = drop a.taken a.requests; answers = a.answers } };
+    ghost view = { λ a. record { local = a.local; up_requests = []; up_responses = []; down = []; requests = drop a.taken a.requests; answers = a.answers.items } };
 }
 
 impl Cell {
+    /// An object that has done nothing yet, with its processor's requests. It takes no memory.
+    pub(crate) fn start(alloc: Global, local: Local, requests: List<Message>) -> Cell
+        ensures { result ≡ quiet_cell local requests }
+    {
+        Cell {
+            local,
+            requests,
+            taken: 0,
+            answers: Vec::new(alloc),
+        }
+    }
+
     pub(crate) fn local(&self) -> &Local
         ensures { result.now ≡ self.now.local }
     {
@@ -44,5 +61,37 @@ impl Cell {
         ensures { result.now ≡ self.now.answers }
     {
         self.answers.as_slice()
+    }
+
+    /// What a leaf sees of its lists: the next request, and no message down.
+    fn heads(&self) -> Heads
+        ensures { result ≡ leaf_heads self.now }
+    {
+        Heads {
+            me: self.requests.get(self.taken).copied(),
+            parent: None,
+            kids: ArrayVec::new(),
+        }
+    }
+
+    /// Fires a rule of a leaf, and says whether it could. The rule takes the next request, and its answer is
+    /// the last one. Where it can't fire, or memory runs out, nothing changes.
+    pub(crate) fn answer(&mut self, p: &Protocol, rule: &Rule) -> Result<bool, OutOfMemory>
+        requires { IsOneRule rule.now }
+        ensures ok { IfOk result (λ done. (done ≡ can_leaf p.now rule.now self.old) × (self.new ≡ cond done (leaf_after p.now rule.now self.old) self.old)) }
+        ensures err { OnErr result (self.new ≡ self.old) }
+    {
+        if self.taken == self.requests.len() {
+            return Ok(false);
+        }
+        let heads = self.heads();
+        if !can(p, Kind::Leaf, rule, None, &self.local, &heads) {
+            return Ok(false);
+        }
+        self.answers.reserve(1)?;
+        let outs = fire(p, Kind::Leaf, rule, None, &mut self.local, &heads);
+        self.answers.push(outs.message)?;
+        self.taken += 1;
+        Ok(true)
     }
 }
