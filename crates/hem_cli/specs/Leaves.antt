@@ -1,17 +1,25 @@
 -- Leaves of a one-step document: their channels are empty, and a rule takes a request and answers it.
-use Rattle.std.specs.Prelude.{ℕ, ◌≡◌, Bool, cond, List, [], ◌∷◌, ◌++◌, drop, Some, None, slice_get, slice_set}
+use Rattle.std.specs.Prelude.{ℕ, ◌≡◌, Bool, cond, List, [], ◌∷◌, ◌++◌, drop, length, map, Some, None, slice_get, slice_set}
 use Rattle.hem_base.specs.declared.ids.Message.{Message}
-use Rattle.hem_base.specs.declared.ids.Kind.TheVariants.{Leaf}
+use Rattle.hem_base.specs.declared.ids.Kind.TheVariants.{Root, Leaf}
 use Rattle.hem_syntax.specs.declared.rule.Rule.{Rule}
 use Rattle.hem_syntax.specs.Protocol.{Protocol}
 use Rattle.hem_syntax.specs.Local.{Local}
 use Rattle.hem_fire.specs.OneFire.{Heads, can_fire, local_after, outs_of}
-use Rattle.hem_cli.specs.State.{Cell, Line}
+use Rattle.hem_cli.specs.State.{Cell, Line, first_local}
 
 -- an object with requests, and no other message
 abbrev pub quiet_cell : Local → List Message → Cell
 quiet_cell local requests =
     record { local = local; up_requests = []; up_responses = []; down = []; requests = requests; answers = [] }
+
+-- a leaf at the start, with its requests
+abbrev pub first_leaf : Protocol → List Message → Cell
+first_leaf p requests = quiet_cell (first_local p Leaf 0) requests
+
+-- a root and a leaf for each of these lists of requests, at the start
+abbrev pub first_cells : Protocol → List (List Message) → Line
+first_cells p requests = quiet_cell (first_local p Root (length requests)) [] ∷ map (first_leaf p) requests
 
 -- the heads that a leaf sees for its processor
 abbrev pub leaf_heads : Cell → Heads

@@ -11,7 +11,7 @@ ghost use Rattle.hem_cli.specs.Replays.{IsReplay};
 
 use crate::cell::Cell;
 use crate::document::Document;
-use crate::starting::{part_of, start_line};
+use crate::starting::{first_cells, part_of};
 use hem_base::{Firing, Kind, List, OutOfMemory, RuleId};
 use hem_syntax::{Protocol, Rule};
 use std::alloc::Global;
@@ -76,13 +76,13 @@ fn make(document: &Document, cells: &mut List<Cell>, firing: Firing) -> Result<b
     }
 }
 
-/// Makes the firings of the history in order, up to the first that isn't possible.
-pub(crate) fn replay(alloc: Global, document: &Document) -> Result<Replayed, OutOfMemory>
-    requires { IsOneStep document.now }
-    ensures ends { IfOk result (λ r. IsReplay document.now.protocol (tree_of document.now) (start_of document.now) document.now.history r.illegal (r.cells ∷ [])) }
-    ensures size { IfOk result (λ r. length r.cells ≡ document.now.leaves + 1) }
+/// Makes the firings of the history in order on this line, up to the first that isn't possible.
+fn replay_on(document: &Document, mut cells: List<Cell>) -> Result<Replayed, OutOfMemory>
+    requires one { IsOneStep document.now }
+    requires size { length cells ≡ document.now.leaves + 1 }
+    ensures ends { IfOk result (λ r. IsReplay document.now.protocol (tree_of document.now) (cells ∷ []) document.now.history r.illegal (r.cells ∷ [])) }
+    ensures size { IfOk result (λ r. length r.cells ≡ length cells) }
 {
-    let mut cells = start_line(alloc, document)?;
     for (place, firing) in document.history.as_slice().iter().enumerate() {
         if !make(document, &mut cells, *firing)? {
             return Ok(Replayed {
@@ -95,4 +95,14 @@ pub(crate) fn replay(alloc: Global, document: &Document) -> Result<Replayed, Out
         cells,
         illegal: None,
     })
+}
+
+/// Makes the firings of the history in order from the start, up to the first that isn't possible.
+pub(crate) fn replay(alloc: Global, document: &Document) -> Result<Replayed, OutOfMemory>
+    requires { IsOneStep document.now }
+    ensures ends { IfOk result (λ r. IsReplay document.now.protocol (tree_of document.now) (start_of document.now) document.now.history r.illegal (r.cells ∷ [])) }
+    ensures size { IfOk result (λ r. length r.cells ≡ document.now.leaves + 1) }
+{
+    let cells = first_cells(alloc, &document.protocol, document.requests.as_slice())?;
+    replay_on(document, cells)
 }
