@@ -1,13 +1,13 @@
 -- The start of a one-step document.
 use Rattle.std.proofs.Common.{◌≡◌, refl, ap, sym, ◌∙◌, ℕ, ◌+◌, ◌<◌, ◌≤◌, zero, suc, true, List, [], ◌∷◌, ◌++◌, length, map, arith, add-zero, add-one, Some, None}
 use Rattle.std.specs.Prelude.{slice_get, slice_index_or, filter, option_and_then}
-use Rattle.std.proofs.lemmas.List.{length-append}
+use Rattle.std.proofs.lemmas.List.{length-append, length-map}
 use Rattle.std.proofs.lemmas.List.Elements.{filter-append}
 use Rattle.hem_base.specs.declared.ids.Message.{Message}
 use Rattle.hem_base.specs.declared.ids.Kind.TheVariants.{Root, Leaf}
 use Rattle.hem_syntax.specs.Protocol.{Protocol}
 use Rattle.hem_cli.specs.Tree.{Tree, Node, below, is_child, is_number, parent_of, children_of}
-use Rattle.hem_cli.specs.State.{Cell, map_each, first_local, first_cell, first_line, requests_of, start}
+use Rattle.hem_cli.specs.State.{Cell, Line, map_each, first_local, first_cell, first_line, requests_of, start}
 use Rattle.hem_cli.specs.Document.{Document, root_with, leaf_nodes, tree_of, work_of, start_of}
 use Rattle.hem_cli.specs.Leaves.{quiet_cell, first_leaf, first_cells}
 use Rattle.hem_cli.proofs.ReplayLemmas.{leaf_children}
@@ -45,12 +45,24 @@ leaves_start p n requests k (messages ∷ lists) same =
     let tail = leaves_start p n requests (suc k) lists (λ i. let next : suc (suc k) + i ≡ suc k + suc i = omega arith in rw next (same (suc i))) in
     rw (leaf_children n k, its, e, tail) refl
 
+-- lists of the same first element and the same rest
+cons_same : {A : Type 0} (x y : A) (xs ys : List A) → x ≡ y → xs ≡ ys → x ∷ xs ≡ y ∷ ys
+cons_same x y xs ys head tail = cc (head, tail)
+
 -- the start of a document with a list of requests for each leaf
 pub starts : (d : Document) → length d.requests ≡ d.leaves → start_of d ≡ first_cells d.protocol d.requests ∷ []
 starts d each =
     let requests = requests_of (work_of d) 0 in
     let p = d.protocol in
-    let root : first_cell p (tree_of d) requests 0 (record { kind = Root; parent = None }) ≡ quiet_cell (first_local p Root (length d.requests)) [] = rw (root_children d.leaves, each) refl in
+    let node : Node = record { kind = Root; parent = None } in
+    let count : length (children_of (tree_of d) 0) ≡ length d.requests = root_children d.leaves ∙ sym each in
+    let root : first_cell p (tree_of d) requests 0 node ≡ quiet_cell (first_local p Root (length d.requests)) [] = ap (λ (n : ℕ). quiet_cell (first_local p Root n) []) count in
     let leaves : map_each (first_cell p (tree_of d) requests) 1 (leaf_nodes (length d.requests)) ≡ map (first_leaf p) d.requests = leaves_start p d.leaves requests 0 d.requests (λ i. let e : 1 + i ≡ suc i = omega arith in rw e refl) in
-    let count : leaf_nodes d.leaves ≡ leaf_nodes (length d.requests) = ap leaf_nodes (sym each) in
-    rw (count, root, leaves) refl
+    let all : map_each (first_cell p (tree_of d) requests) 1 (leaf_nodes d.leaves) ≡ map (first_leaf p) d.requests = ap (λ (n : ℕ). map_each (first_cell p (tree_of d) requests) 1 (leaf_nodes n)) (sym each) ∙ leaves in
+    ap (λ (line : Line). line ∷ []) (cons_same (first_cell p (tree_of d) requests 0 node) (quiet_cell (first_local p Root (length d.requests)) []) (map_each (first_cell p (tree_of d) requests) 1 (leaf_nodes d.leaves)) (map (first_leaf p) d.requests) root all)
+
+-- an object for each leaf, and the root
+pub length-first_cells : (p : Protocol) (requests : List (List Message)) → length (first_cells p requests) ≡ length requests + 1
+length-first_cells p requests =
+    let e : suc (length requests) ≡ length requests + 1 = omega arith in
+    rw (length-map, e) refl

@@ -12,6 +12,6 @@ length-below (suc n) = let e : n + 1 ≡ suc n = omega arith in rw (length-appen
 pub push-requires : goal.push-requires
 push-requires c =
     let status = c.in-Some.status in
-    let size : length (map (λ (k : ℕ). status) (below c.loop-child._child)) ≡ c.loop-child._child = rw (length-map (λ (k : ℕ). status) (below c.loop-child._child)) (length-below c.loop-child._child) in
+    let size : length (map (λ (k : ℕ). status) (below c.loop-child._child)) ≡ c.loop-child._child = rw length-map (length-below c.loop-child._child) in
     let here : length c.loop-child.first.items ≡ c.loop-child._child = rw c.loop-child.invariant size in
     (lit< tt, omega (arith, here))
