@@ -7,7 +7,8 @@ use Rattle.hem_base.specs.declared.ids.Message.{Message}
 use Rattle.hem_base.specs.declared.ids.Kind.TheVariants.{Root, Leaf}
 use Rattle.hem_syntax.specs.Protocol.{Protocol}
 use Rattle.hem_cli.specs.Tree.{Tree, Node, below, is_child, is_number, parent_of, children_of}
-use Rattle.hem_cli.specs.State.{Cell, Line, map_each, first_local, first_cell, first_line, requests_of, start}
+use Rattle.hem_fire.specs.Start.{first_local}
+use Rattle.hem_cli.specs.State.{Cell, Line, map_each, first_cell, first_line, requests_of, start}
 use Rattle.hem_cli.specs.Document.{Document, root_with, leaf_nodes, tree_of, work_of, start_of}
 use Rattle.hem_cli.specs.Leaves.{quiet_cell, first_leaf, first_cells}
 use Rattle.hem_cli.proofs.ReplayLemmas.{leaf_children}

@@ -6,7 +6,8 @@ use Rattle.hem_syntax.specs.declared.rule.Rule.{Rule}
 use Rattle.hem_syntax.specs.Protocol.{Protocol}
 use Rattle.hem_syntax.specs.Local.{Local}
 use Rattle.hem_fire.specs.OneFire.{Heads, can_fire, local_after, outs_of}
-use Rattle.hem_cli.specs.State.{Cell, Line, first_local}
+use Rattle.hem_fire.specs.Start.{first_local}
+use Rattle.hem_cli.specs.State.{Cell, Line}
 
 -- an object with requests, and no other message
 abbrev pub quiet_cell : Local → List Message → Cell

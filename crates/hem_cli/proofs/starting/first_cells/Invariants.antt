@@ -1,6 +1,6 @@
 use Rattle.std.proofs.Common.{◌≡◌, [], ◌∷◌, take, map, length}
 use Rattle.hem_base.specs.declared.ids.Kind.TheVariants.{Root}
-use Rattle.hem_cli.specs.State.{first_local}
+use Rattle.hem_fire.specs.Start.{first_local}
 use Rattle.hem_cli.specs.Leaves.{quiet_cell, first_leaf}
 use Rattle.hem_cli.proofs.starting.first_cells.Given as goal
 
