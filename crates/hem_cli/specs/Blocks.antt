@@ -4,7 +4,7 @@ use Rattle.hem_base.specs.declared.ids.Firing.{Firing}
 use Rattle.hem_syntax.specs.Protocol.{Protocol}
 use Rattle.hem_cli.specs.Tree.{Tree}
 use Rattle.hem_cli.specs.State.{State, Runs}
-use Rattle.hem_cli.specs.History.{Event, Channel, events, channels_taken}
+use Rattle.hem_cli.specs.History.{Event, events, channels_taken}
 use Rattle.hem_cli.specs.Tags.{Tags, no_tags, tags_after}
 
 -- the fact holds of each element

@@ -1,5 +1,5 @@
 -- What the firings of a history take and send, and to which transaction each belongs.
-use Rattle.std.specs.Prelude.{ℕ, ◌==◌, ◌≡◌, ◌+◌, Bool, true, false, ◌&&◌, cond, List, [], ◌∷◌, ◌++◌, length, map, take, Option, None, Some, slice_get, slice_index, filter, count_by, flat_map, option_map, option_and_then, option_to_list}
+use Rattle.std.specs.Prelude.{ℕ, ◌==◌, ◌+◌, Bool, ◌&&◌, cond, List, [], ◌∷◌, ◌++◌, map, take, Option, None, Some, slice_get, filter, count_by, flat_map, option_and_then, option_to_list}
 use Rattle.hem_base.specs.Sets.{has_bit}
 use Rattle.hem_base.specs.declared.ids.Message.{Message}
 use Rattle.hem_base.specs.declared.ids.Firing.{Firing}
@@ -9,7 +9,7 @@ use Rattle.hem_cli.specs.declared.lane.Lane.TheVariants.{UpRequests, UpResponses
 use Rattle.hem_syntax.specs.Protocol.{Protocol}
 use Rattle.hem_cli.specs.Tree.{Tree, children_of, place_among}
 use Rattle.hem_fire.specs.OneFire.{Heads}
-use Rattle.hem_cli.specs.State.{State, Line, Effect, Step, step_of, LineStep, line_step_of, takes, sends, reaches}
+use Rattle.hem_cli.specs.State.{State, Line, step_of, line_step_of, takes, sends, reaches}
 
 -- a firing that was made, with the heads that it took, and what it took and sent
 pub record Event : Type 0 where

@@ -1,6 +1,6 @@
 -- The normal order of a history, and the order in which transactions are printed.
-use Rattle.std.specs.Prelude.{ℕ, ◌==◌, ◌+◌, nat_lt, Bool, true, false, not, ◌&&◌, ◌||◌, cond, zero, suc, List, [], ◌∷◌, ◌++◌, length, map, filter, flat_map, find, zip, Option, None, Some, Result, Ok, Err, option_and_then}
-use Rattle.std.specs.List.{list_any, list_all}
+use Rattle.std.specs.Prelude.{ℕ, ◌==◌, ◌+◌, nat_lt, Bool, true, false, not, ◌&&◌, ◌||◌, cond, zero, suc, List, [], ◌∷◌, ◌++◌, length, map, filter, flat_map, find, Option, None, Some, Result, Ok}
+use Rattle.std.specs.List.{list_any}
 use Rattle.std.specs.Option.{option_map_or}
 use Rattle.hem_base.specs.declared.ids.Firing.{Firing}
 use Rattle.hem_syntax.specs.declared.rule.TemplateName.{TemplateName}

@@ -1,8 +1,7 @@
 -- Whole states, firings and runs.
-use Rattle.std.specs.Prelude.{ℕ, ◌==◌, ◌≡◌, ◌+◌, nat_lt, Bool, true, false, not, ◌&&◌, cond, List, [], ◌∷◌, ◌++◌, length, map, drop, Option, None, Some, slice_get, slice_set, slice_index_or, option_map, option_and_then, is_none}
+use Rattle.std.specs.Prelude.{ℕ, ◌==◌, ◌≡◌, ◌+◌, Bool, true, false, ◌&&◌, cond, List, [], ◌∷◌, ◌++◌, length, map, drop, Option, None, Some, slice_get, slice_set, slice_index_or, option_map, option_and_then, is_none}
 use Rattle.std.specs.Option.{option_map_or}
 use Rattle.hem_base.specs.Sets.{has_bit}
-use Rattle.hem_base.specs.declared.ids.Status8.{Status8}
 use Rattle.hem_base.specs.declared.ids.ObjectId.{ObjectId}
 use Rattle.hem_base.specs.declared.ids.Message.{Message}
 use Rattle.hem_base.specs.declared.ids.Firing.{Firing}
@@ -13,7 +12,7 @@ use Rattle.hem_fire.specs.declared.outs.To.TheVariants as to
 use Rattle.hem_fire.specs.declared.outs.Outs.{Outs}
 use Rattle.hem_cli.specs.declared.lane.Lane.{Lane}
 use Rattle.hem_cli.specs.declared.lane.Lane.TheVariants.{UpRequests, UpResponses, Down, Requests, Answers}
-use Rattle.hem_syntax.specs.Protocol.{Protocol, KindPart, part, rule_named}
+use Rattle.hem_syntax.specs.Protocol.{Protocol, part, rule_named}
 use Rattle.hem_cli.specs.Tree.{Tree, Node, below, kind_of, parent_of, is_child, children_of, place_among}
 use Rattle.hem_syntax.specs.Local.{Local}
 use Rattle.hem_fire.specs.Start.{first_local}

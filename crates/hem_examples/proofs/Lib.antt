@@ -1,1 +1,2 @@
 mod Serial
+mod LawfulTree

@@ -5,7 +5,7 @@ use Rattle.std.specs.List.{list_all}
 use Rattle.std.proofs.lemmas.Bool.{eqb-true}
 use Rattle.hem_base.specs.declared.ids.LineId.{LineId}
 use Rattle.hem_cli.specs.Tree.{Tree, is_number}
-use Rattle.hem_cli.specs.History.{Event, Channel, events, channels_taken}
+use Rattle.hem_cli.specs.History.{Event, events, channels_taken}
 use Rattle.hem_syntax.specs.Protocol.{Protocol}
 use Rattle.hem_cli.specs.State.{run}
 use Rattle.hem_cli.specs.Tags.{Tags, no_tags, tags_after}
@@ -22,14 +22,17 @@ abbrev pub is_filled : {X : Type 0} → List X → Bool
 is_filled [] = false
 is_filled (x ∷ xs) = true
 
+-- a list with an element is not empty
 pub filled : {X : Type 0} (xs : List X) → is_filled xs ≡ true → xs ≢ []
 filled [] is = cc
 filled (x ∷ xs) is = λ e. cc
 
+-- a test that fails is false
 pub not-false : (b : Bool) → not b ≡ true → b ≡ false
 not-false false is = refl
 not-false true is = cc
 
+-- a number that is there and equal
 pub number-is : (m : Option ℕ) (n : ℕ) → is_number m n ≡ true → m ≡ Some n
 number-is None n is = cc
 number-is (Some m) n is = ap Some (eqb-true m n is)
@@ -45,6 +48,7 @@ takes_within tree tags first e =
     is_filled (channels_taken tree e)
     && (not (e.outs.taken_me && is_none e.firing.me) && list_all (λ c. is_number (slice_get (tags c) 0) first) (channels_taken tree e))
 
+-- so says the test of what an event takes
 pub within : (tree : Tree) (tags : Tags) (first : ℕ) (e : Event) → takes_within tree tags first e ≡ true → TakesWithin tree tags first e
 within tree tags first e is =
     let inside = list_all (λ c. is_number (slice_get (tags c) 0) first) (channels_taken tree e) in
@@ -61,6 +65,7 @@ abbrev pub are_closed : Tree → Tags → ℕ → List Event → Bool
 are_closed tree tags first [] = true
 are_closed tree tags first (e ∷ es) = takes_within tree tags first e && are_closed tree (tags_after tree tags e first) first es
 
+-- so says the test of the events after the first
 pub closed : (tree : Tree) (tags : Tags) (first : ℕ) (es : List Event) → are_closed tree tags first es ≡ true → AreClosed tree tags first es
 closed tree tags first [] is = tt
 closed tree tags first (e ∷ es) is =
@@ -71,9 +76,11 @@ closed tree tags first (e ∷ es) is =
 abbrev pub same_line : Event → Event → Bool
 same_line e later = later.firing.line.0 == e.firing.line.0
 
+-- lines of the same number are the same
 pub line-same : (a b : LineId) → (a.0 == b.0) ≡ true → a ≡ b
 line-same a b is = ap {B = LineId} (λ n. record { 0 = n }) (eqb-true a.0 b.0 is)
 
+-- a list without an element is empty
 pub takes-none : {X : Type 0} (xs : List X) → not (is_filled xs) ≡ true → xs ≡ []
 takes-none [] is = refl
 takes-none (x ∷ xs) is = cc
@@ -85,6 +92,7 @@ is_block tree tags first (e ∷ es) =
     not (is_filled (channels_taken tree e))
     && (list_all (same_line e) es && are_closed tree (tags_after tree tags e first) first es)
 
+-- so says the test of one block
 pub block : (tree : Tree) (tags : Tags) (first : ℕ) (es : List Event) → is_block tree tags first es ≡ true → IsBlock tree tags first es
 block tree tags first [] is = cc
 block tree tags first (e ∷ es) is =
@@ -103,6 +111,7 @@ are_blocks tree tags first es (b ∷ bs) =
     let n = length b.firings in
     is_block tree tags first (take n es) && are_blocks tree (tags_past tree tags first (take n es)) (first + n) (drop n es) bs
 
+-- so says the test of all blocks
 pub blocks : (tree : Tree) (tags : Tags) (first : ℕ) (es : List Event) (bs : List Block) → are_blocks tree tags first es bs ≡ true → AreBlocks tree tags first es bs
 blocks tree tags first es [] is = takes-none es is
 blocks tree tags first es (b ∷ bs) is =

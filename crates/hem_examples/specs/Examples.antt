@@ -6,7 +6,6 @@ use Rattle.hem_base.specs.declared.ids.MsgId.{MsgId}
 use Rattle.hem_base.specs.declared.ids.RuleId.{RuleId}
 use Rattle.hem_base.specs.declared.ids.Message.{Message}
 use Rattle.hem_base.specs.declared.ids.Firing.{Firing}
-use Rattle.hem_base.specs.declared.ids.Kind.TheVariants.{Root, Mid, Leaf}
 use Rattle.hem_syntax.specs.declared.state.By.{By}
 use Rattle.hem_syntax.specs.declared.state.Lock.{Lock}
 use Rattle.hem_syntax.specs.Protocol.{Protocol}

@@ -1,5 +1,5 @@
 -- A load fired twice.
-use Rattle.std.specs.Prelude.{◌≡◌, [], ◌∷◌, ◌++◌, None}
+use Rattle.std.specs.Prelude.{◌≡◌, [], ◌∷◌, None}
 use Rattle.hem_cli.specs.State.{Runs, fire}
 use Rattle.hem_examples.specs.Examples.{at, start_of}
 use Rattle.hem_examples.specs.OneLoad.{one_load, ld_hit}

@@ -14,3 +14,4 @@ pub mod InterleavedStores
 pub mod UnfinishedStores
 pub mod LateHit
 pub mod SecondFanOut
+pub mod Lawful

@@ -33,30 +33,30 @@ unfinished_stores =
       tree = mid_and_leaf;
       work = work ([] ∷ [] ∷ (message ld_id 0 ∷ message st_id 5 ∷ []) ∷ (message st_id 7 ∷ []) ∷ []);
       history =
-        at 2 ld_miss
-        ∷ at_from 1 gets_up 2
-        ∷ at_from 0 gets_hit 1
-        ∷ at 1 gets_resp
-        ∷ at 2 ld_resp
-        ∷ at 3 st_miss
-        ∷ at_from 0 getm_inv 3
-        ∷ at 2 st_miss
-        ∷ at_from 1 getm_up 2
-        ∷ at 1 inv_down
-        ∷ at 2 inv
-        ∷ [];
+          at 2 ld_miss
+          ∷ at_from 1 gets_up 2
+          ∷ at_from 0 gets_hit 1
+          ∷ at 1 gets_resp
+          ∷ at 2 ld_resp
+          ∷ at 3 st_miss
+          ∷ at_from 0 getm_inv 3
+          ∷ at 2 st_miss
+          ∷ at_from 1 getm_up 2
+          ∷ at 1 inv_down
+          ∷ at 2 inv
+          ∷ [];
       end =
-        (root_at_end
-        ∷ mid_at_end
-        ∷ first_leaf_at_end
-        ∷ second_leaf_at_end
-        ∷ [])
-        ∷ [];
+          (root_at_end
+          ∷ mid_at_end
+          ∷ first_leaf_at_end
+          ∷ second_leaf_at_end
+          ∷ [])
+          ∷ [];
       numbers = 0 ∷ 0 ∷ 0 ∷ 0 ∷ 0 ∷ 5 ∷ 5 ∷ 7 ∷ 7 ∷ 5 ∷ 5 ∷ [];
       order = 0 ∷ 1 ∷ 2 ∷ 3 ∷ 4 ∷ 5 ∷ 6 ∷ 7 ∷ 8 ∷ 9 ∷ 10 ∷ [];
       blocks =
-        block 0 (at 2 ld_miss ∷ at_from 1 gets_up 2 ∷ at_from 0 gets_hit 1 ∷ at 1 gets_resp ∷ at 2 ld_resp ∷ [])
-        ∷ block 7 (at 2 st_miss ∷ at_from 1 getm_up 2 ∷ [])
-        ∷ block 5 (at 3 st_miss ∷ at_from 0 getm_inv 3 ∷ at 1 inv_down ∷ at 2 inv ∷ [])
-        ∷ [];
+          block 0 (at 2 ld_miss ∷ at_from 1 gets_up 2 ∷ at_from 0 gets_hit 1 ∷ at 1 gets_resp ∷ at 2 ld_resp ∷ [])
+          ∷ block 7 (at 2 st_miss ∷ at_from 1 getm_up 2 ∷ [])
+          ∷ block 5 (at 3 st_miss ∷ at_from 0 getm_inv 3 ∷ at 1 inv_down ∷ at 2 inv ∷ [])
+          ∷ [];
     }

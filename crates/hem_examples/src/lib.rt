@@ -6,6 +6,7 @@ ghost use Rattle.hem_examples.specs.Examples.{IsWorked};
 ghost use Rattle.hem_examples.specs.FiredTwice.{IsFiredOnce};
 ghost use Rattle.hem_examples.specs.InterleavedStores.{interleaved_stores as interleaved};
 ghost use Rattle.hem_examples.specs.LateHit.{late_hit as late};
+ghost use Rattle.hem_examples.specs.Lawful.{AreLawful};
 ghost use Rattle.hem_examples.specs.Msi.{msi};
 ghost use Rattle.hem_examples.specs.OneLoad.{one_load};
 ghost use Rattle.hem_examples.specs.OvertakenEviction.{overtaken_eviction as overtaken};
@@ -52,4 +53,9 @@ pub fn late_hit()
 /// A store for which a mid, once its own request is answered, invalidates its other child.
 pub fn second_fan_out()
     ensures { IsWorked msi second }
+{}
+
+/// A lawful tree, and a well-formed local state.
+pub fn lawful()
+    ensures { AreLawful }
 {}
