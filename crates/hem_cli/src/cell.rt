@@ -4,6 +4,7 @@ ghost use Rattle.std.specs.Prelude.{◌≡◌, ◌≤◌, cond, length, slice_ge
 ghost use Rattle.hem_fire.specs.OneRule.{IsOneRule};
 ghost use Rattle.hem_cli.specs.Leaves.{quiet_cell, leaf_heads, can_leaf, leaf_after};
 
+use crate::lane::Lane;
 use arrayvec::ArrayVec;
 use hem_base::{Kind, List, Message, OutOfMemory};
 use hem_fire::{Heads, Local, can, fire};
@@ -32,6 +33,8 @@ impl Model for Cell {
 }
 
 impl Cell {
+    ghost use Rattle.hem_cli.specs.State.{list_of};
+
     /// An object that has done nothing yet, with its processor's requests. It takes no memory.
     pub(crate) fn start(alloc: Global, local: Local, requests: List<Message>) -> Cell
         ensures { result ≡ quiet_cell local requests }
@@ -93,5 +96,16 @@ impl Cell {
         self.answers.push(outs.message)?;
         self.taken += 1;
         Ok(true)
+    }
+
+    /// A list of the object. Its channels are empty.
+    pub(crate) fn list(&self, lane: Lane) -> &[Message]
+        ensures { result.now ≡ list_of self.now lane }
+    {
+        match lane {
+            Lane::UpRequests | Lane::UpResponses | Lane::Down => &[],
+            Lane::Requests => self.requests(),
+            Lane::Answers => self.answers(),
+        }
     }
 }

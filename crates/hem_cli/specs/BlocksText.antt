@@ -1,0 +1,19 @@
+-- The text of blocks.
+use Rattle.std.specs.Prelude.{ℕ, ◌+◌, List, [], ◌∷◌, ◌++◌, length, flat_map, codes, decimal}
+use Rattle.hem_base.specs.declared.ids.Firing.{Firing}
+use Rattle.hem_syntax.specs.Protocol.{Protocol, Text}
+use Rattle.hem_cli.specs.Blocks.{Block}
+use Rattle.hem_cli.specs.Texts.{firing_text}
+
+-- a block: its number and its firings
+abbrev pub block_text : Protocol → Block → Text
+block_text p b = codes "block " ++ decimal b.number ++ codes "\n" ++ flat_map (firing_text p) b.firings
+
+-- how many blocks there are, and each block
+abbrev pub blocks_text : Protocol → List Block → Text
+blocks_text p blocks = codes "blocks " ++ decimal (length blocks) ++ codes "\n" ++ flat_map (block_text p) blocks
+
+-- each firing as a block of its own, the first with number k
+abbrev pub singles : ℕ → List Firing → List Block
+singles k [] = []
+singles k (f ∷ h) = record { number = k; firings = f ∷ [] } ∷ singles (k + 1) h
