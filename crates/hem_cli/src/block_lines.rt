@@ -29,7 +29,6 @@ impl Output {
     }
 
     /// Appends the text of blocks of one firing each, numbered from 0.
-    #[tactic(auto, using(crate::proofs::Singles::length_singles))]
     pub(crate) fn singles(&mut self, p: &Protocol, history: &[Firing]) -> Result<(), OutOfMemory>
         ensures { OnOk result (self.new ≡ self.old ++ blocks_text p.now (singles 0 history.now)) }
     {

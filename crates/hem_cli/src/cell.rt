@@ -102,10 +102,11 @@ impl Cell {
     pub(crate) fn list(&self, lane: Lane) -> &[Message]
         ensures { result.now ≡ list_of self.now lane }
     {
+        let answers = self.answers.as_slice();
         match lane {
             Lane::UpRequests | Lane::UpResponses | Lane::Down => &[],
             Lane::Requests => self.requests(),
-            Lane::Answers => self.answers(),
+            Lane::Answers => answers,
         }
     }
 }

@@ -70,12 +70,12 @@ impl Output {
     fn awaited(&mut self, children: &[usize], set: KidSet) -> Result<(), OutOfMemory>
         ensures { OnOk result (self.new ≡ self.old ++ join_by decimal (codes ",") (awaited_of children.now set)) }
     {
-        let mut comma = "";
+        let mut comma: &[u8] = b"";
         for (place, child) in children.iter().enumerate() {
             if has_place(set, place) {
-                self.text(comma)?;
+                self.bytes(comma)?;
                 self.number(*child as u64)?;
-                comma = ",";
+                comma = b",";
             }
         }
         Ok(())
@@ -85,17 +85,22 @@ impl Output {
     fn statuses(&mut self, p: &Protocol, statuses: &[Status8]) -> Result<(), OutOfMemory>
         ensures { OnOk result (self.new ≡ self.old ++ join_by (status_text p.now) (codes ",") statuses.now) }
     {
-        let mut comma = "";
+        let mut comma: &[u8] = b"";
         for status in statuses {
-            self.text(comma)?;
+            self.bytes(comma)?;
             self.status(p, *status)?;
-            comma = ",";
+            comma = b",";
         }
         Ok(())
     }
 
     /// Appends an uplock.
-    fn uplock(&mut self, p: &Protocol, children: &[usize], lock: &Option<Lock>) -> Result<(), OutOfMemory>
+    fn uplock(
+        &mut self,
+        p: &Protocol,
+        children: &[usize],
+        lock: &Option<Lock>,
+    ) -> Result<(), OutOfMemory>
         ensures { OnOk result (self.new ≡ self.old ++ uplock_text p.now children.now lock.now) }
     {
         match lock {
@@ -105,7 +110,12 @@ impl Output {
     }
 
     /// Appends a downlock.
-    fn downlock(&mut self, p: &Protocol, children: &[usize], lock: &Option<Lock>) -> Result<(), OutOfMemory>
+    fn downlock(
+        &mut self,
+        p: &Protocol,
+        children: &[usize],
+        lock: &Option<Lock>,
+    ) -> Result<(), OutOfMemory>
         ensures { OnOk result (self.new ≡ self.old ++ downlock_text p.now children.now lock.now) }
     {
         match lock {
@@ -139,7 +149,13 @@ impl Output {
     }
 
     /// Appends ` FIELD=STATUS`.
-    fn field(&mut self, p: &Protocol, kind: Kind, place: usize, status: Status8) -> Result<(), OutOfMemory>
+    fn field(
+        &mut self,
+        p: &Protocol,
+        kind: Kind,
+        place: usize,
+        status: Status8,
+    ) -> Result<(), OutOfMemory>
         ensures { OnOk result (self.new ≡ self.old ++ field_text p.now kind place status) }
     {
         self.text(" ")?;

@@ -1,6 +1,6 @@
 //! The tree of a root and its leaves.
 
-ghost use Rattle.std.specs.Prelude.{◌≡◌, ◌<◌, ◌≤◌, ◌-◌, length, IfOk, Some};
+ghost use Rattle.std.specs.Prelude.{◌≡◌, ◌<◌, IfOk};
 
 use hem_base::{Kind, OutOfMemory};
 use std::alloc::Global;
@@ -42,22 +42,20 @@ impl Star {
     }
 
     /// The kind of an object.
-    pub(crate) fn kind(&self, object: usize) -> Kind
-        requires { object < length self.now }
-        ensures { kind_of self.now object ≡ Some result }
+    pub(crate) fn kind(&self, object: usize) -> Option<Kind>
+        ensures { result ≡ kind_of self.now object }
     {
-        if object == 0 { Kind::Root } else { Kind::Leaf }
+        if object > self.leaves {
+            return None;
+        }
+        Some(if object == 0 { Kind::Root } else { Kind::Leaf })
     }
 
     /// The numbers of an object's children, in order.
     pub(crate) fn children(&self, object: usize) -> &[usize]
-        requires { object < length self.now }
         ensures { result.now ≡ children_of self.now object }
     {
-        if object == 0 {
-            self.numbers.as_slice()
-        } else {
-            &[]
-        }
+        let numbers = self.numbers.as_slice();
+        if object == 0 { numbers } else { &[] }
     }
 }

@@ -1,9 +1,10 @@
 //! The text of a state, and whether it is quiet.
 
-ghost use Rattle.std.specs.Prelude.{◌≡◌, ◌<◌, ◌≤◌, ◌++◌, ◌∷◌, [], length, OnOk};
+ghost use Rattle.std.specs.Prelude.{◌≡◌, ◌≤◌, ◌-◌, ◌++◌, ◌∷◌, [], length, OnOk};
+ghost use Rattle.std.specs.List.{list_all};
 ghost use Rattle.hem_cli.specs.Document.{root_with};
 ghost use Rattle.hem_cli.specs.Texts.{text_of_each};
-ghost use Rattle.hem_cli.specs.StateText.{messages_text, list_line, list_lines, lane_text, object_line, object_text, line_text, state_text, has_no_message, has_no_lock, is_idle, is_quiet};
+ghost use Rattle.hem_cli.specs.StateText.{messages_text, list_line, list_lines, lane_text, object_line, object_text, line_text, state_text, has_no_message, has_no_lock, is_idle, is_quiet, word_of};
 
 use crate::cell::Cell;
 use crate::lane::Lane;
@@ -40,7 +41,13 @@ impl Output {
     }
 
     /// Appends the line of a list, where it isn't empty.
-    fn list(&mut self, p: &Protocol, object: usize, lane: Lane, messages: &[Message]) -> Result<(), OutOfMemory>
+    fn list(
+        &mut self,
+        p: &Protocol,
+        object: usize,
+        lane: Lane,
+        messages: &[Message],
+    ) -> Result<(), OutOfMemory>
         ensures { OnOk result (self.new ≡ self.old ++ list_line p.now object lane messages.now) }
     {
         if messages.is_empty() {
@@ -82,18 +89,23 @@ impl Output {
     }
 
     /// Appends the lines of an object of the tree.
-    fn object(&mut self, p: &Protocol, tree: &Star, object: usize, cell: &Cell) -> Result<(), OutOfMemory>
-        requires { object < length tree.now }
+    fn object(
+        &mut self,
+        p: &Protocol,
+        tree: &Star,
+        object: usize,
+        cell: &Cell,
+    ) -> Result<(), OutOfMemory>
         ensures { OnOk result (self.new ≡ self.old ++ object_text p.now tree.now object cell.now) }
     {
-        let kind = tree.kind(object);
-        self.object_line(p, kind, tree.children(object), object, cell.local())?;
+        if let Some(kind) = tree.kind(object) {
+            self.object_line(p, kind, tree.children(object), object, cell.local())?;
+        }
         self.lists(p, object, cell)
     }
 
     /// Appends the lines of all objects.
     fn objects(&mut self, p: &Protocol, tree: &Star, cells: &[Cell]) -> Result<(), OutOfMemory>
-        requires { length cells.now ≤ length tree.now }
         ensures { OnOk result (self.new ≡ self.old ++ text_of_each (object_text p.now tree.now) 0 cells.now) }
     {
         for (object, cell) in cells.iter().enumerate() {
@@ -103,8 +115,13 @@ impl Output {
     }
 
     /// Appends the state of a line.
-    fn line(&mut self, p: &Protocol, tree: &Star, line: u64, cells: &[Cell]) -> Result<(), OutOfMemory>
-        requires { length cells.now ≤ length tree.now }
+    fn line(
+        &mut self,
+        p: &Protocol,
+        tree: &Star,
+        line: u64,
+        cells: &[Cell],
+    ) -> Result<(), OutOfMemory>
         ensures { OnOk result (self.new ≡ self.old ++ line_text p.now tree.now line cells.now) }
     {
         self.text("line ")?;
@@ -113,14 +130,34 @@ impl Output {
         self.objects(p, tree, cells)
     }
 
-    /// Appends the state of the one line.
-    pub(crate) fn state(&mut self, p: &Protocol, tree: &Star, cells: &[Cell]) -> Result<(), OutOfMemory>
-        requires { length cells.now ≤ length tree.now }
+    /// Appends the state of the one line of a tree.
+    fn state_of(&mut self, p: &Protocol, tree: &Star, cells: &[Cell]) -> Result<(), OutOfMemory>
         ensures { OnOk result (self.new ≡ self.old ++ state_text p.now tree.now (cells.now ∷ [])) }
     {
         self.text("state\n")?;
         self.line(p, tree, 0, cells)?;
         self.text("end\n")
+    }
+
+    /// Appends the state of the one line of a root and its leaves.
+    pub(crate) fn state(
+        &mut self,
+        alloc: Global,
+        p: &Protocol,
+        cells: &[Cell],
+    ) -> Result<(), OutOfMemory>
+        requires { 1 ≤ length cells.now }
+        ensures { OnOk result (self.new ≡ self.old ++ state_text p.now (root_with (length cells.now - 1)) (cells.now ∷ [])) }
+    {
+        let tree = Star::make(alloc, cells.len() - 1)?;
+        self.state_of(p, &tree, cells)
+    }
+
+    /// Appends whether the state of the one line is quiet.
+    pub(crate) fn word(&mut self, cells: &[Cell]) -> Result<(), OutOfMemory>
+        ensures { OnOk result (self.new ≡ self.old ++ word_of (cells.now ∷ [])) }
+    {
+        self.text(if is_quiet(cells) { "quiet\n" } else { "open\n" })
     }
 }
 
@@ -148,9 +185,16 @@ fn is_idle(cell: &Cell) -> bool
     has_no_message(cell) && has_no_lock(cell.local())
 }
 
+/// Whether all objects are idle.
+fn all_idle(cells: &[Cell]) -> bool
+    ensures { result ≡ list_all is_idle cells.now }
+{
+    cells.iter().all(|cell| is_idle(cell))
+}
+
 /// Whether no list but the answers has a message, and no lock is held.
 pub(crate) fn is_quiet(cells: &[Cell]) -> bool
     ensures { result ≡ is_quiet (cells.now ∷ []) }
 {
-    cells.iter().all(|cell| is_idle(cell))
+    all_idle(cells)
 }
