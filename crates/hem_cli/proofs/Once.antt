@@ -7,7 +7,9 @@ use Rattle.hem_cli.specs.State.{State, Runs}
 use Rattle.hem_cli.specs.Order.{entries_of, printed}
 use Rattle.hem_cli.specs.Document.{Document, tree_of, start_of}
 use Rattle.hem_cli.specs.Replays.{IsReplay}
-use Rattle.hem_cli.specs.Texts.{word_of, blocks_text, state_text, illegal_text}
+use Rattle.hem_cli.specs.Texts.{illegal_text}
+use Rattle.hem_cli.specs.BlocksText.{blocks_text}
+use Rattle.hem_cli.specs.StateText.{word_of, state_text}
 use Rattle.hem_cli.specs.OneForm.{IsDocument}
 use Rattle.hem_cli.specs.Answer.{Answer, IsGrouped, IsStopped, IsGood}
 use Rattle.hem_cli.specs.Outcome.{Says, IsWhole}

@@ -9,7 +9,9 @@ use Rattle.hem_cli.specs.Document.{Document, IsOneStep, root_with, tree_of, star
 use Rattle.hem_cli.specs.OneForm.{IsDocument}
 use Rattle.hem_cli.specs.Replays.{IsIllegal, IsReplay}
 use Rattle.hem_cli.specs.Singles.{singles}
-use Rattle.hem_cli.specs.Texts.{word_of, blocks_text, state_text, illegal_text}
+use Rattle.hem_cli.specs.Texts.{illegal_text}
+use Rattle.hem_cli.specs.BlocksText.{blocks_text}
+use Rattle.hem_cli.specs.StateText.{word_of, state_text}
 use Rattle.hem_cli.specs.Answer.{IsGrouped, IsStopped}
 use Rattle.hem_cli.proofs.OneStepOrder.{one_step-printed}
 

@@ -1,7 +1,7 @@
 -- What a reply says, with sources that may not tell their bytes.
 use Rattle.std.proofs.Common.{◌≡◌, ℕ, ◌+◌, ◌<◌, ◌≤◌, ◌↔◌, List, length, Option, Some, None, ap, subst, arith, length-append}
 use Rattle.std.proofs.lemmas.List.{length-replicate}
-use Rattle.std.specs.Prelude.{Result, Ok, Err, IfOk, string_bytes, replicate}
+use Rattle.std.specs.Prelude.{Result, Ok, Err, IfOk, replicate}
 use Rattle.hem_base.specs.declared.outside.OutOfMemory.{OutOfMemory}
 use Rattle.hem_io.specs.Reading.{ReadsAll, TakesFront}
 use Rattle.hem_cli.specs.declared.answer.Reply.{Reply}
@@ -20,7 +20,7 @@ past (Some xs) (Some ys) n A P a holds taken =
 
 -- a reply says what its status and its text say
 pub said : (words : List (List ℕ)) (left : Option (List ℕ)) (r : Result Reply OutOfMemory) (status : Status) (text : List ℕ)
-    → IfOk r (λ x. x.status ≡ status) → IfOk r (λ x. string_bytes x.text ≡ text) → Says words left status text → IfOk r (λ x. Says words left x.status (string_bytes x.text))
+    → IfOk r (λ x. x.status ≡ status) → IfOk r (λ x. x.text.items ≡ text) → Says words left status text → IfOk r (λ x. Says words left x.status x.text.items)
 said words left (Ok x) status text is_status is_text says = rw (is_status, is_text) says
 said words left (Err e) status text is_status is_text says = tt
 
@@ -36,7 +36,7 @@ says_after words left status text after answer = answer
 
 -- a reply to the bytes that were read says the answer to what was left
 pub read_says : (words : List (List ℕ)) (left new : Option (List ℕ)) (bytes : List ℕ) (r : Result Reply OutOfMemory) → IsGood words → ReadsAll left new bytes
-    → IfOk r (λ x. (w : List (List ℕ)) → IsGood w → Answer w bytes x.status (string_bytes x.text)) → IfOk r (λ x. IsAfterReading x.status) → IfOk r (λ x. Says words left x.status (string_bytes x.text))
+    → IfOk r (λ x. (w : List (List ℕ)) → IsGood w → Answer w bytes x.status x.text.items) → IfOk r (λ x. IsAfterReading x.status) → IfOk r (λ x. Says words left x.status x.text.items)
 read_says words left new bytes (Ok x) good read answers after =
-    says_after words left x.status (string_bytes x.text) after (of_read left new bytes (λ bs. Answer words bs x.status (string_bytes x.text)) read (answers words good))
+    says_after words left x.status x.text.items after (of_read left new bytes (λ bs. Answer words bs x.status x.text.items) read (answers words good))
 read_says words left new bytes (Err e) good read answers after = tt

@@ -1,7 +1,7 @@
 -- Blocks of one firing each.
 use Rattle.std.proofs.Common.{◌≡◌, refl, ap, ℕ, ◌+◌, List, [], ◌∷◌, length, suc}
 use Rattle.hem_base.specs.declared.ids.Firing.{Firing}
-use Rattle.hem_cli.specs.BlocksText.{singles}
+use Rattle.hem_cli.specs.Singles.{singles}
 
 -- as many blocks as firings
 pub length_singles : (k : ℕ) (h : List Firing) → length (singles k h) ≡ length h

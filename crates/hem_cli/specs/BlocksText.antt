@@ -12,8 +12,3 @@ block_text p b = codes "block " ++ decimal b.number ++ codes "\n" ++ flat_map (f
 -- how many blocks there are, and each block
 abbrev pub blocks_text : Protocol → List Block → Text
 blocks_text p blocks = codes "blocks " ++ decimal (length blocks) ++ codes "\n" ++ flat_map (block_text p) blocks
-
--- each firing as a block of its own, the first with number k
-abbrev pub singles : ℕ → List Firing → List Block
-singles k [] = []
-singles k (f ∷ h) = record { number = k; firings = f ∷ [] } ∷ singles (k + 1) h

@@ -7,16 +7,18 @@ ghost use Rattle.hem_cli.specs.Answer.{IsGood, Answer, most_bytes, IsGrouped, Is
 ghost use Rattle.hem_cli.specs.Outcome.{Says, IsAfterReading};
 ghost use Rattle.hem_cli.specs.declared.status.Status.{Status};
 ghost use Rattle.hem_cli.specs.Document.{Document, IsOneStep, root_with};
-ghost use Rattle.hem_cli.specs.Texts.{word_of, blocks_text, state_text, illegal_text};
+ghost use Rattle.hem_cli.specs.Texts.{illegal_text};
+ghost use Rattle.hem_cli.specs.BlocksText.{blocks_text};
+ghost use Rattle.hem_cli.specs.StateText.{word_of, state_text};
 ghost use Rattle.hem_cli.specs.Singles.{singles};
 ghost use Rattle.hem_cli.specs.OneForm.{IsDocument};
 
 use crate::Status;
 use crate::cell::Cell;
 use crate::document::Document;
+use crate::output::Output;
 use crate::read::read_document;
 use crate::replaying::replay;
-use crate::texts::{illegal_text, singles_text, state_text, word_of};
 use hem_base::{OutOfMemory, Source};
 use hem_io::{ReadEnd, read_all};
 use std::alloc::Global;
@@ -30,14 +32,14 @@ const USAGE: &str = "usage: hem JOB [--json] [--count N] [--seed N]\n";
 #[derive(Drop)]
 pub(crate) struct Reply {
     pub(crate) status: Status,
-    pub(crate) text: String,
+    pub(crate) text: Vec<u8>,
 }
 
 fn reply_of(alloc: Global, status: Status, text: &str) -> Result<Reply, OutOfMemory>
     ensures status { IfOk result (λ r. r.status ≡ status) }
-    ensures text { IfOk result (λ r. string_bytes r.text ≡ text.now) }
+    ensures text { IfOk result (λ r. r.text.items ≡ text.now) }
 {
-    let text = String::from_str(alloc, text)?;
+    let text = Vec::from_slice(alloc, text.as_bytes())?;
     Ok(Reply { status, text })
 }
 
@@ -56,31 +58,22 @@ fn are_good(words: &[String]) -> bool
     }
 }
 
-/// The texts one after another.
-fn joined(first: String, second: &str, third: &str) -> Result<String, OutOfMemory>
-    ensures { IfOk result (λ s. string_bytes s ≡ string_bytes first ++ second.now ++ third.now) }
-{
-    let mut text = first;
-    text.push_str(second)?;
-    text.push_str(third)?;
-    Ok(text)
-}
-
 /// The text of a history that runs: the word, each firing as a block of its own, and the end state.
 fn grouped_text(
     alloc: Global,
     document: &Document,
     cells: &[Cell],
-) -> Result<String, OutOfMemory>
+) -> Result<Vec<u8>, OutOfMemory>
     requires { 1 ≤ length cells.now }
-    ensures { IfOk result (λ text. string_bytes text ≡ word_of (cells.now ∷ [])
+    ensures { IfOk result (λ text. text.items ≡ word_of (cells.now ∷ [])
         ++ blocks_text document.now.protocol (singles 0 document.now.history)
         ++ state_text document.now.protocol (root_with (length cells.now - 1)) (cells.now ∷ [])) }
 {
-    let word = String::from_str(alloc, word_of(cells))?;
-    let blocks = singles_text(alloc, &document.protocol, document.history.as_slice())?;
-    let state = state_text(alloc, &document.protocol, cells)?;
-    joined(word, &blocks, &state)
+    let mut text = Output::new(alloc);
+    text.word(cells)?;
+    text.singles(&document.protocol, document.history.as_slice())?;
+    text.state(alloc, &document.protocol, cells)?;
+    Ok(text.into_bytes())
 }
 
 /// The text of a history with a firing that isn't possible: its place, and the state before it.
@@ -89,21 +82,22 @@ fn stopped_text(
     document: &Document,
     place: usize,
     cells: &[Cell],
-) -> Result<String, OutOfMemory>
+) -> Result<Vec<u8>, OutOfMemory>
     requires { 1 ≤ length cells.now }
-    ensures { IfOk result (λ text. string_bytes text ≡ illegal_text place
+    ensures { IfOk result (λ text. text.items ≡ illegal_text place
         ++ state_text document.now.protocol (root_with (length cells.now - 1)) (cells.now ∷ [])) }
 {
-    let first = illegal_text(alloc, place)?;
-    let state = state_text(alloc, &document.protocol, cells)?;
-    joined(first, &state, "")
+    let mut text = Output::new(alloc);
+    text.illegal(place as u64)?;
+    text.state(alloc, &document.protocol, cells)?;
+    Ok(text.into_bytes())
 }
 
 /// The answer to a document of the one-step form.
 fn replayed(alloc: Global, document: &Document) -> Result<Reply, OutOfMemory>
     requires { IsOneStep document.now }
-    ensures done { IfOk result (λ r. (bytes : List ℕ) → IsDocument bytes document.now → r.status ≡ Status.Done → IsGrouped bytes (string_bytes r.text)) }
-    ensures illegal { IfOk result (λ r. (bytes : List ℕ) → IsDocument bytes document.now → r.status ≡ Status.Illegal → IsStopped bytes (string_bytes r.text)) }
+    ensures done { IfOk result (λ r. (bytes : List ℕ) → IsDocument bytes document.now → r.status ≡ Status.Done → IsGrouped bytes r.text.items) }
+    ensures illegal { IfOk result (λ r. (bytes : List ℕ) → IsDocument bytes document.now → r.status ≡ Status.Illegal → IsStopped bytes r.text.items) }
     ensures either { IfOk result (λ r. (r.status ≡ Status.Done) ⊎ (r.status ≡ Status.Illegal)) }
 {
     let end = replay(alloc, document)?;
@@ -123,7 +117,7 @@ fn replayed(alloc: Global, document: &Document) -> Result<Reply, OutOfMemory>
 /// The answer to a whole input, where the words are good.
 fn group(alloc: Global, bytes: &[u8]) -> Result<Reply, OutOfMemory>
     requires { length bytes.now ≤ most_bytes }
-    ensures answers { IfOk result (λ r. (words : List (List ℕ)) → IsGood words → Answer words bytes.now r.status (string_bytes r.text)) }
+    ensures answers { IfOk result (λ r. (words : List (List ℕ)) → IsGood words → Answer words bytes.now r.status r.text.items) }
     ensures after { IfOk result (λ r. IsAfterReading r.status) }
 {
     match read_document(alloc, bytes)? {
@@ -138,7 +132,7 @@ pub(crate) fn answer<S: Source>(
     words: &[String],
     source: &mut S,
 ) -> Result<Reply, OutOfMemory>
-    ensures says { IfOk result (λ r. Says (map string_bytes words.now) (S.left source.old) r.status (string_bytes r.text)) }
+    ensures says { IfOk result (λ r. Says (map string_bytes words.now) (S.left source.old) r.status r.text.items) }
     ensures unread { ¬ IsGood (map string_bytes words.now) → source.new ≡ source.old }
     ensures read { IfOk result (λ r. IsAfterReading r.status → IsAtEnd (S.left source.new)) }
     ensures read_fault { IfOk result (λ r. r.status ≡ Status.ReadFault → Rose (S.faults source.old) (S.faults source.new)) }

@@ -1,7 +1,8 @@
 //! The text of blocks.
 
 ghost use Rattle.std.specs.Prelude.{◌≡◌, ◌∷◌, [], ◌++◌, OnOk, flat_map};
-ghost use Rattle.hem_cli.specs.BlocksText.{block_text, blocks_text, singles};
+ghost use Rattle.hem_cli.specs.BlocksText.{block_text, blocks_text};
+ghost use Rattle.hem_cli.specs.Singles.{singles};
 
 use crate::output::Output;
 use hem_base::{Firing, OutOfMemory};

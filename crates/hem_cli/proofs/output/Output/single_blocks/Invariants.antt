@@ -1,6 +1,7 @@
 use Rattle.std.proofs.Common.{◌≡◌, ◌++◌, drop}
 use Rattle.std.specs.List.{flat_map}
-use Rattle.hem_cli.specs.BlocksText.{block_text, singles}
+use Rattle.hem_cli.specs.BlocksText.{block_text}
+use Rattle.hem_cli.specs.Singles.{singles}
 use Rattle.hem_cli.proofs.output.Output.single_blocks.Given as goal
 
 -- the text so far and the blocks that are left make the whole text
