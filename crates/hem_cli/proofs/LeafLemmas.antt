@@ -1,5 +1,5 @@
 -- A rule at a leaf: it takes the first request and answers it, and nothing else on the line changes.
-use Rattle.std.proofs.Common.{◌≡◌, ◌≢◌, refl, ap, sym, subst, ◌∙◌, drop-drop, ℕ, ◌+◌, ◌<◌, zero, suc, Bool, true, false, ◌&&◌, cond, List, [], ◌∷◌, ◌++◌, drop, arith, add-zero, zero-add, Option, Some, None}
+use Rattle.std.proofs.Common.{◌≡◌, ◌≢◌, refl, ap, sym, subst, ◌∙◌, drop-drop, ℕ, ◌+◌, zero, suc, true, false, List, [], ◌∷◌, ◌++◌, drop, arith, add-zero, zero-add, Some, None}
 use Rattle.std.proofs.lemmas.List.{append-nil, set-get_or}
 use Rattle.std.proofs.lemmas.Option.{get_or_from_slice_get}
 use Rattle.std.specs.Prelude.{◌==◌, slice_get, slice_set}

@@ -1,10 +1,8 @@
 -- Firings on the line of a one-step document, and runs of them.
 use Rattle.std.proofs.Common.{◌≡◌, ◌≢◌, refl, ap, sym, subst, ◌∙◌, ℕ, ◌+◌, ◌<◌, ◌≤◌, zero, suc, Bool, true, false, cond, List, [], ◌∷◌, ◌++◌, length, arith, Option, Some, None}
-use Rattle.std.specs.Prelude.{All, ◌==◌, slice_get, slice_set, option_map, option_and_then, filter, find}
+use Rattle.std.specs.Prelude.{All, slice_get, slice_set, option_and_then, filter, find}
 use Rattle.std.proofs.lemmas.Option.{slice_get_past}
-use Rattle.std.proofs.lemmas.List.Elements.{filter-append}
-use Rattle.hem_base.specs.declared.ids.Kind.{Kind}
-use Rattle.hem_base.specs.declared.ids.Kind.TheVariants.{Root, Mid, Leaf}
+use Rattle.hem_base.specs.declared.ids.Kind.TheVariants.{Leaf}
 use Rattle.hem_base.specs.declared.ids.Firing.{Firing}
 use Rattle.hem_base.specs.declared.ids.ObjectId.{ObjectId}
 use Rattle.hem_syntax.specs.declared.rule.Rule.{Rule}
@@ -12,10 +10,10 @@ use Rattle.hem_syntax.specs.Protocol.{Protocol, rule_named}
 use Rattle.hem_syntax.specs.Local.{Local}
 use Rattle.hem_fire.specs.OneFire.{Heads}
 use Rattle.hem_fire.specs.OneRule.{IsOneRule}
-use Rattle.hem_cli.specs.Tree.{Tree, Node, below, is_child, is_number, parent_of, kind_of, children_of}
-use Rattle.hem_cli.specs.State.{Cell, Line, State, Effect, Runs, Fires, fire, run, effect_of, own_effect, line_after, local_at, heads_of}
-use Rattle.hem_cli.specs.Document.{root_with, leaf_nodes, IsOneStep}
-use Rattle.hem_cli.specs.Leaves.{leaf_heads, can_leaf, leaf_after, IsAnswerAt}
+use Rattle.hem_cli.specs.Tree.{Tree, below, is_child, is_number, kind_of, children_of}
+use Rattle.hem_cli.specs.State.{Cell, Line, State, Effect, Runs, fire, run, effect_of, own_effect, line_after, local_at, heads_of}
+use Rattle.hem_cli.specs.Document.{root_with, leaf_nodes}
+use Rattle.hem_cli.specs.Leaves.{can_leaf, leaf_after, IsAnswerAt}
 use Rattle.hem_cli.proofs.LeafLemmas.{leaf_effect, own_firing, line_after-leaf}
 
 -- what is found among what all keeps a property keeps it

@@ -1,14 +1,14 @@
 -- The start of a one-step document.
-use Rattle.std.proofs.Common.{◌≡◌, refl, ap, sym, ◌∙◌, ℕ, ◌+◌, ◌<◌, ◌≤◌, zero, suc, true, List, [], ◌∷◌, ◌++◌, length, map, arith, add-zero, add-one, Some, None}
-use Rattle.std.specs.Prelude.{slice_get, slice_index_or, filter, option_and_then}
+use Rattle.std.proofs.Common.{◌≡◌, refl, ap, sym, ◌∙◌, ℕ, ◌+◌, ◌<◌, ◌≤◌, zero, suc, true, List, [], ◌∷◌, ◌++◌, length, map, arith, add-zero, None}
+use Rattle.std.specs.Prelude.{slice_index_or, filter}
 use Rattle.std.proofs.lemmas.List.{length-append, length-map}
 use Rattle.std.proofs.lemmas.List.Elements.{filter-append}
 use Rattle.hem_base.specs.declared.ids.Message.{Message}
-use Rattle.hem_base.specs.declared.ids.Kind.TheVariants.{Root, Leaf}
+use Rattle.hem_base.specs.declared.ids.Kind.TheVariants.{Root}
 use Rattle.hem_syntax.specs.Protocol.{Protocol}
-use Rattle.hem_cli.specs.Tree.{Tree, Node, below, is_child, is_number, parent_of, children_of}
+use Rattle.hem_cli.specs.Tree.{Node, below, is_child, children_of}
 use Rattle.hem_fire.specs.Start.{first_local}
-use Rattle.hem_cli.specs.State.{Cell, Line, map_each, first_cell, first_line, requests_of, start}
+use Rattle.hem_cli.specs.State.{Line, map_each, first_cell, requests_of}
 use Rattle.hem_cli.specs.Document.{Document, root_with, leaf_nodes, tree_of, work_of, start_of}
 use Rattle.hem_cli.specs.Leaves.{quiet_cell, first_leaf, first_cells}
 use Rattle.hem_cli.proofs.ReplayLemmas.{leaf_children}

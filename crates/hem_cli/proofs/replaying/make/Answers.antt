@@ -2,8 +2,7 @@ use Rattle.std.proofs.Common.{rules, arith, ◌≡◌, ap, sym, ◌∷◌, [], c
 use Rattle.std.specs.Prelude.{◌==◌}
 use Rattle.std.proofs.lemmas.Result.{IfOk-weaker}
 use Rattle.hem_base.specs.declared.ids.Kind.TheVariants.{Leaf}
-use Rattle.hem_syntax.specs.declared.rule.Rule.{Rule}
-use Rattle.hem_syntax.specs.Protocol.{Protocol, rule_named}
+use Rattle.hem_syntax.specs.Protocol.{rule_named}
 use Rattle.hem_fire.specs.OneRule.{IsOneRule}
 use Rattle.hem_cli.specs.State.{fire}
 use Rattle.hem_cli.specs.Document.{Document, tree_of}
@@ -11,7 +10,7 @@ use Rattle.hem_cli.specs.Leaves.{IsAnswerAt}
 use Rattle.hem_cli.proofs.ReplayLemmas.{All-find, by_leaf}
 use Rattle.hem_cli.proofs.replaying.make.Goals as goal
 
--- src/replaying.rt:55:23
+-- a rule that was found among those of the leaves answers in one step
 pub answer_at-requires-clause-one : goal.answer_at-requires-clause-one
 answer_at-requires-clause-one c =
     let p = c.args.document.now.protocol in
