@@ -1,0 +1,256 @@
+//! Reserved words and signs.
+
+ghost use Rattle.std.specs.Prelude.{◌≡◌};
+ghost use Rattle.hem_cli.specs.OneFormWords.{word_bytes, sign_bytes, class_word, is_reserved};
+
+use hem_syntax::Class;
+
+/// The reserved words. The word `self` is called `Own`.
+#[derive(Clone, Copy)]
+pub(crate) enum Reserved {
+    Protocol,
+    Use,
+    Status,
+    Message,
+    Kind,
+    Root,
+    Mid,
+    Leaf,
+    Field,
+    Init,
+    Dir,
+    Rule,
+    Take,
+    Need,
+    Up,
+    Down,
+    Any,
+    Free,
+    Child,
+    Parent,
+    Own,
+    When,
+    In,
+    All,
+    Asked,
+    Set,
+    Lock,
+    Send,
+    End,
+    Me,
+    Kids,
+    Others,
+    None,
+    Val,
+    Targets,
+    Msg,
+    Kept,
+    Rs,
+    ExtReq,
+    ExtRsp,
+    UpReq,
+    UpRsp,
+    DownReq,
+    DownRsp,
+    Tree,
+    Work,
+    Lines,
+    At,
+    Line,
+    History,
+    From,
+    Modules,
+    Reg,
+    Queue,
+    Spontaneous,
+    Do,
+    If,
+    And,
+    Head,
+    Deq,
+    Enq,
+    Value,
+    Never,
+    Feed,
+}
+
+/// The signs of the one-step form: `(`, `)`, `,` and `:=`.
+#[derive(Clone, Copy)]
+pub(crate) enum Sign {
+    Open,
+    Close,
+    Comma,
+    Assign,
+}
+
+/// The bytes of a reserved word.
+pub(crate) fn word_bytes(word: Reserved) -> &'static [u8]
+    ensures { result.now ≡ word_bytes word }
+{
+    match word {
+        Reserved::Protocol => b"protocol",
+        Reserved::Use => b"use",
+        Reserved::Status => b"status",
+        Reserved::Message => b"message",
+        Reserved::Kind => b"kind",
+        Reserved::Root => b"root",
+        Reserved::Mid => b"mid",
+        Reserved::Leaf => b"leaf",
+        Reserved::Field => b"field",
+        Reserved::Init => b"init",
+        Reserved::Dir => b"dir",
+        Reserved::Rule => b"rule",
+        Reserved::Take => b"take",
+        Reserved::Need => b"need",
+        Reserved::Up => b"up",
+        Reserved::Down => b"down",
+        Reserved::Any => b"any",
+        Reserved::Free => b"free",
+        Reserved::Child => b"child",
+        Reserved::Parent => b"parent",
+        Reserved::Own => b"self",
+        Reserved::When => b"when",
+        Reserved::In => b"in",
+        Reserved::All => b"all",
+        Reserved::Asked => b"asked",
+        Reserved::Set => b"set",
+        Reserved::Lock => b"lock",
+        Reserved::Send => b"send",
+        Reserved::End => b"end",
+        Reserved::Me => b"me",
+        Reserved::Kids => b"kids",
+        Reserved::Others => b"others",
+        Reserved::None => b"none",
+        Reserved::Val => b"val",
+        Reserved::Targets => b"targets",
+        Reserved::Msg => b"msg",
+        Reserved::Kept => b"kept",
+        Reserved::Rs => b"rs",
+        Reserved::ExtReq => b"ext_req",
+        Reserved::ExtRsp => b"ext_rsp",
+        Reserved::UpReq => b"up_req",
+        Reserved::UpRsp => b"up_rsp",
+        Reserved::DownReq => b"down_req",
+        Reserved::DownRsp => b"down_rsp",
+        Reserved::Tree => b"tree",
+        Reserved::Work => b"work",
+        Reserved::Lines => b"lines",
+        Reserved::At => b"at",
+        Reserved::Line => b"line",
+        Reserved::History => b"history",
+        Reserved::From => b"from",
+        Reserved::Modules => b"modules",
+        Reserved::Reg => b"reg",
+        Reserved::Queue => b"queue",
+        Reserved::Spontaneous => b"spontaneous",
+        Reserved::Do => b"do",
+        Reserved::If => b"if",
+        Reserved::And => b"and",
+        Reserved::Head => b"head",
+        Reserved::Deq => b"deq",
+        Reserved::Enq => b"enq",
+        Reserved::Value => b"value",
+        Reserved::Never => b"never",
+        Reserved::Feed => b"feed",
+    }
+}
+
+/// The bytes of a sign.
+pub(crate) fn sign_bytes(sign: Sign) -> &'static [u8]
+    ensures { result.now ≡ sign_bytes sign }
+{
+    match sign {
+        Sign::Open => b"(",
+        Sign::Close => b")",
+        Sign::Comma => b",",
+        Sign::Assign => b":=",
+    }
+}
+
+/// The word of a message's class.
+pub(crate) fn class_word(class: Class) -> Reserved
+    ensures { result ≡ class_word class }
+{
+    match class {
+        Class::ExtReq => Reserved::ExtReq,
+        Class::ExtRsp => Reserved::ExtRsp,
+        Class::UpReq => Reserved::UpReq,
+        Class::UpRsp => Reserved::UpRsp,
+        Class::DownReq => Reserved::DownReq,
+        Class::DownRsp => Reserved::DownRsp,
+    }
+}
+
+const WORDS: [Reserved; 64] = [
+    Reserved::Protocol,
+    Reserved::Use,
+    Reserved::Status,
+    Reserved::Message,
+    Reserved::Kind,
+    Reserved::Root,
+    Reserved::Mid,
+    Reserved::Leaf,
+    Reserved::Field,
+    Reserved::Init,
+    Reserved::Dir,
+    Reserved::Rule,
+    Reserved::Take,
+    Reserved::Need,
+    Reserved::Up,
+    Reserved::Down,
+    Reserved::Any,
+    Reserved::Free,
+    Reserved::Child,
+    Reserved::Parent,
+    Reserved::Own,
+    Reserved::When,
+    Reserved::In,
+    Reserved::All,
+    Reserved::Asked,
+    Reserved::Set,
+    Reserved::Lock,
+    Reserved::Send,
+    Reserved::End,
+    Reserved::Me,
+    Reserved::Kids,
+    Reserved::Others,
+    Reserved::None,
+    Reserved::Val,
+    Reserved::Targets,
+    Reserved::Msg,
+    Reserved::Kept,
+    Reserved::Rs,
+    Reserved::ExtReq,
+    Reserved::ExtRsp,
+    Reserved::UpReq,
+    Reserved::UpRsp,
+    Reserved::DownReq,
+    Reserved::DownRsp,
+    Reserved::Tree,
+    Reserved::Work,
+    Reserved::Lines,
+    Reserved::At,
+    Reserved::Line,
+    Reserved::History,
+    Reserved::From,
+    Reserved::Modules,
+    Reserved::Reg,
+    Reserved::Queue,
+    Reserved::Spontaneous,
+    Reserved::Do,
+    Reserved::If,
+    Reserved::And,
+    Reserved::Head,
+    Reserved::Deq,
+    Reserved::Enq,
+    Reserved::Value,
+    Reserved::Never,
+    Reserved::Feed,
+];
+
+/// Whether a word is reserved.
+pub(crate) fn is_reserved(text: &[u8]) -> bool
+    ensures { result ≡ is_reserved text.now }
+{
+    WORDS.iter().any(|w| word_bytes(*w) == text)
+}
