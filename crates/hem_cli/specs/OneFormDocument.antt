@@ -2,7 +2,8 @@
 use Rattle.std.specs.Prelude.{ℕ, ◌≡◌, List, [], map, length, Option, Some, None, option_map}
 use Rattle.hem_base.specs.declared.ids.Status8.{Status8}
 use Rattle.hem_base.specs.Tokens.{tokens_of}
-use Rattle.hem_base.specs.Machine.{Lexeme, lexeme_of, state, Reads}
+use Rattle.hem_base.specs.declared.text.Token.{Token}
+use Rattle.hem_base.specs.Machine.{lexeme_of, state, Reads}
 use Rattle.hem_syntax.specs.Protocol.{Text, KindPart, Protocol}
 use Rattle.hem_cli.specs.Document.{Document}
 use Rattle.hem_cli.specs.OneForm.{start}
@@ -34,12 +35,12 @@ document_named e name = record { protocol = protocol_named e name; leaves = leng
 abbrev pub document_of : Read → Option Document
 document_of e = option_map (document_named e) e.name
 
--- the tokens of a text with their bytes
-abbrev pub lexemes : List ℕ → List Lexeme
-lexemes bytes = map (lexeme_of bytes) (tokens_of bytes)
+-- the grammar reads all of the tokens, which say so much
+abbrev pub ReadsAll : List ℕ → List Token → Read → Type 0
+ReadsAll bytes tokens e = Reads one_form (state nothing_read start) (map (lexeme_of bytes) tokens) (length tokens) e
 
--- the bytes are the document: all of their tokens are read by the grammar, and say it
+-- the bytes are the document: all of their tokens are read, and say it
 pub record IsDocument (bytes : List ℕ) (d : Document) : Type 0 where
   pub read : Read
-  pub reads : Reads one_form (state nothing_read start) (lexemes bytes) (length (lexemes bytes)) read
+  pub reads : ReadsAll bytes (tokens_of bytes) read
   pub says : document_of read ≡ Some d

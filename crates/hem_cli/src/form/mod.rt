@@ -9,4 +9,4 @@ mod table;
 mod words;
 
 pub(crate) use draft::{Draft, nothing_read};
-pub(crate) use table::start;
+pub(crate) use table::{Item, Terminal, start};

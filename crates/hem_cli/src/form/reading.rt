@@ -1,6 +1,7 @@
 //! The language of the one-step form.
 
 ghost use Rattle.std.specs.Prelude.{◌≡◌, [], ◌∷◌, ◌++◌, OnOk, IsTrue};
+ghost use Rattle.std.specs.List.{list_any};
 ghost use Rattle.hem_cli.specs.OneFormNumbers.{number_of};
 ghost use Rattle.hem_cli.specs.OneFormMeaning.{place_in, first_place_in, is_short, has_room_for, may_use, may_name, is_written, is_in_set, fits, is_taken, writes_field, writes_val, value_of, firing_of, after_new, after_status, after_message, after_value, after_number, one_form};
 
@@ -43,6 +44,20 @@ fn writes_field(place: u8, assign: &Assign) -> bool
         Assign::Field(field, _) => field == place,
         _ => false,
     }
+}
+
+/// Whether one of the assignments writes the field at a place.
+fn any_writes_field(sets: &[Assign], place: u8) -> bool
+    ensures { result ≡ list_any (writes_field place) sets.now }
+{
+    sets.iter().any(|a| writes_field(place, a))
+}
+
+/// Whether one of the assignments writes the object's value.
+fn any_writes_val(sets: &[Assign]) -> bool
+    ensures { result ≡ list_any writes_val sets.now }
+{
+    sets.iter().any(|a| writes_val(a))
 }
 
 /// Whether an assignment writes the object's value.
@@ -190,10 +205,7 @@ impl Draft {
     {
         match field {
             FieldUse::Guard => false,
-            FieldUse::Written => {
-                let place = self.field_at(text);
-                self.sets.as_slice().iter().any(|a| writes_field(place, a))
-            }
+            FieldUse::Written => any_writes_field(self.sets.as_slice(), self.field_at(text)),
         }
     }
 
@@ -346,7 +358,7 @@ impl Language for Draft {
             Terminal::New(declared) => !self.is_taken(declared, text),
             Terminal::Status(status) => !self.is_in_set(status, text),
             Terminal::Field(field) => !self.is_written(field, text),
-            Terminal::Val => !self.sets.as_slice().iter().any(|a| writes_val(a)),
+            Terminal::Val => !any_writes_val(self.sets.as_slice()),
             _ => true,
         }
     }

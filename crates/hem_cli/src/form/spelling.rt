@@ -1,6 +1,7 @@
 //! How tokens are spelled, and where names stand.
 
-ghost use Rattle.std.specs.Prelude.{◌≡◌, ◌≤◌, length, IfOk};
+ghost use Rattle.std.specs.Prelude.{◌≡◌, ◌<◌, ◌≤◌, length, position, IfOk, IfSome};
+ghost use Rattle.std.specs.Str.{bytes_eq};
 ghost use Rattle.hem_base.specs.Names.{IsName};
 ghost use Rattle.hem_cli.specs.OneFormMeaning.{is_word, is_number, is_sign, is_the_word, is_the_sign, is_name, is_in, is_first_in, place_in, first_place_in, fits_use, is_message_for, is_plain, is_short};
 
@@ -89,12 +90,26 @@ pub(crate) fn is_first_in<A>(pairs: &[(Name, A)], text: &[u8]) -> bool
     pairs.iter().any(|p| p.0.as_bytes() == text)
 }
 
+fn position_of(names: &[Name], text: &[u8]) -> Option<usize>
+    ensures same { result ≡ position (λ n. bytes_eq n text.now) names.now }
+    ensures within { IfSome result (λ p. p < length names.now) }
+{
+    names.iter().position(|n| n.as_bytes() == text)
+}
+
+fn first_position_of<A>(pairs: &[(Name, A)], text: &[u8]) -> Option<usize>
+    ensures same { result ≡ position (λ p. bytes_eq p.0 text.now) pairs.now }
+    ensures within { IfSome result (λ p. p < length pairs.now) }
+{
+    pairs.iter().position(|p| p.0.as_bytes() == text)
+}
+
 /// Where the name stands in the list, and 0 where it doesn't.
 pub(crate) fn place_in(names: &[Name], text: &[u8]) -> usize
     ensures same { result ≡ place_in names.now text.now }
     ensures within { result ≤ length names.now }
 {
-    names.iter().position(|n| n.as_bytes() == text).unwrap_or(0)
+    position_of(names, text).unwrap_or(0)
 }
 
 /// Where a pair with the name stands in the list, and 0 where none does.
@@ -102,10 +117,7 @@ pub(crate) fn first_place_in<A>(pairs: &[(Name, A)], text: &[u8]) -> usize
     ensures same { result ≡ first_place_in pairs.now text.now }
     ensures within { result ≤ length pairs.now }
 {
-    pairs
-        .iter()
-        .position(|p| p.0.as_bytes() == text)
-        .unwrap_or(0)
+    first_position_of(pairs, text).unwrap_or(0)
 }
 
 /// Whether a message of the class may stand there.
