@@ -24,9 +24,13 @@ has_id m id = option_map_or (λ m. m.id.0 == id.0) m false
 abbrev pub awaited_of : Local → KidSet
 awaited_of local = option_map_or (λ lock. lock.awaited) local.down nobody
 
+-- of these children each one's place and the head of its responses
+abbrev pub heads_at : KidSet → Heads → List (ℕ × Option Message)
+heads_at kids heads = filter (λ k. has_bit kids.0 k.0) (enumerate_from 0 heads.kids)
+
 -- the awaited children: each one's place and the head of its responses
 abbrev pub awaited_heads : Local → Heads → List (ℕ × Option Message)
-awaited_heads local heads = filter (λ k. has_bit (awaited_of local).0 k.0) (enumerate_from 0 heads.kids)
+awaited_heads local heads = heads_at (awaited_of local) heads
 
 -- the messages that the rule takes are there
 abbrev pub takes_there : Take → Local → Heads → Bool

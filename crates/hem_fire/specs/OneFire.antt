@@ -24,15 +24,19 @@ me_fits Leaf _ me children = is_none me
 me_fits _ (take.Me id) me children = option_map_or (λ c. nat_lt c children) me false
 me_fits _ _ me children = is_none me
 
--- the rule can fire here: the child fits, what the rule takes is there, both locks are as it needs them, everything that it names exists,
--- its guard holds, and its send reaches somebody
-abbrev pub can_fire : Protocol → Kind → Rule → Option ℕ → Local → Heads → Bool
-can_fire p kind rule me local heads =
-    let view = view_of rule.take me local heads in
+-- the child fits, what the rule takes is there, and both locks are as the rule needs them
+abbrev pub can_begin : Kind → Rule → Option ℕ → Local → Heads → Bool
+can_begin kind rule me local heads =
     me_fits kind rule.take me (length local.dir)
     && takes_there rule.take local heads
     && need_holds rule.need.up local.up
     && need_holds rule.need.down local.down
+
+-- the rule can fire here: it can begin, everything that it names exists, its guard holds, and its send reaches somebody
+abbrev pub can_fire : Protocol → Kind → Rule → Option ℕ → Local → Heads → Bool
+can_fire p kind rule me local heads =
+    let view = view_of rule.take me local heads in
+    can_begin kind rule me local heads
     && list_all (assign_names local view) rule.sets
     && lock_names rule.lock view (request_in_hand p rule.take rule.send local view heads)
     && holds rule.guard local view

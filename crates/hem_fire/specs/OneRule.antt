@@ -1,15 +1,7 @@
 -- Rules of the one-step form.
-use Rattle.std.specs.Prelude.{ℕ, ◌≡◌, Bool, true, false, ◌&&◌, length, Option, None, Some, IsTrue}
+use Rattle.std.specs.Prelude.{◌≡◌, Bool, true, false, None, IsTrue}
 use Rattle.std.specs.List.{list_all}
 use Rattle.hem_base.specs.declared.ids.MsgId.{MsgId}
-use Rattle.hem_base.specs.declared.ids.Message.{Message}
-use Rattle.hem_base.specs.declared.ids.Kind.{Kind}
-use Rattle.hem_syntax.specs.declared.state.View.{View}
-use Rattle.hem_syntax.specs.Local.{Local, nobody}
-use Rattle.hem_fire.specs.Heads.{takes_there}
-use Rattle.hem_fire.specs.View.{requester, value_in}
-use Rattle.hem_fire.specs.Locks.{need_holds}
-use Rattle.hem_fire.specs.OneFire.{Heads, me_fits}
 use Rattle.hem_syntax.specs.declared.rule.Rule.{Rule}
 use Rattle.hem_syntax.specs.declared.rule.Take.TheVariants as take
 use Rattle.hem_syntax.specs.declared.rule.Hold.TheVariants as hold
@@ -53,15 +45,3 @@ pub record IsOneRule (rule : Rule) : Type 0 where
   pub lock : rule.lock ≡ None
   pub send : rule.send ≡ send.Me answers sent
   pub plain : IsTrue (is_plain_value sent)
-
--- what a rule names that takes from a child or the processor
-abbrev pub view_of_me : Option ℕ → Option Message → View
-view_of_me me head = record { me = Some (requester me); msg = value_in head; rs = None; kept = None; awaited = nobody }
-
--- the child fits, the messages are there, and both locks are as the rule needs them
-abbrev pub can_begin : Kind → Rule → Option ℕ → Local → Heads → Bool
-can_begin kind rule me local heads =
-    me_fits kind rule.take me (length local.dir)
-    && takes_there rule.take local heads
-    && need_holds rule.need.up local.up
-    && need_holds rule.need.down local.down

@@ -1,4 +1,4 @@
-//! Local states, and one firing at one object.
+//! What an object keeps of a line, and one firing of a rule at one object. No call takes memory.
 #![tactic(auto)]
 
 mod assign;
@@ -7,10 +7,16 @@ mod guard;
 mod heads;
 mod kids;
 mod local;
+mod locks;
 mod outs;
+mod possible;
+mod said;
+mod sends;
+mod view;
 
-pub use firing::{can, fire};
+pub use firing::fire;
 pub use heads::Heads;
 pub use hem_syntax::{By, Lock, View};
 pub use local::Local;
 pub use outs::{Outs, To};
+pub use possible::can;
