@@ -10,13 +10,13 @@ use Rattle.hem_cli.specs.Replays.{IsReplay}
 use Rattle.hem_cli.specs.Texts.{illegal_text}
 use Rattle.hem_cli.specs.BlocksText.{blocks_text}
 use Rattle.hem_cli.specs.StateText.{word_of, state_text}
-use Rattle.hem_cli.specs.OneForm.{IsDocument}
+use Rattle.hem_cli.specs.OneFormDocument.{IsDocument}
 use Rattle.hem_cli.specs.Answer.{Answer, IsGrouped, IsStopped, IsGood}
 use Rattle.hem_cli.specs.Outcome.{Says, IsWhole}
 use Rattle.hem_cli.specs.declared.status.Status.{Status}
 use Rattle.hem_cli.specs.declared.status.Status.TheVariants.{Done, Usage, ReadFault, WriteFault, TooLong, Text, Refused, Setup, Illegal, Memory, NotBuilt}
 use Rattle.hem_cli.proofs.Endings.{replay_once}
-use Rattle.hem_cli.proofs.OneDocument.{document_once}
+use Rattle.hem_cli.proofs.OneFormReads.{document_once}
 
 -- the replay of a document's history
 abbrev Ends : Document → Option ℕ → State → Type 0

@@ -6,7 +6,7 @@ use Rattle.hem_cli.specs.Tree.{Tree}
 use Rattle.hem_cli.specs.State.{State, Line, Runs}
 use Rattle.hem_cli.specs.Order.{entries_of, printed}
 use Rattle.hem_cli.specs.Document.{Document, IsOneStep, root_with, tree_of, start_of}
-use Rattle.hem_cli.specs.OneForm.{IsDocument}
+use Rattle.hem_cli.specs.OneFormDocument.{IsDocument}
 use Rattle.hem_cli.specs.Replays.{IsIllegal, IsReplay}
 use Rattle.hem_cli.specs.Singles.{singles}
 use Rattle.hem_cli.specs.Texts.{illegal_text}

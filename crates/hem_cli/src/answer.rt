@@ -11,7 +11,7 @@ ghost use Rattle.hem_cli.specs.Texts.{illegal_text};
 ghost use Rattle.hem_cli.specs.BlocksText.{blocks_text};
 ghost use Rattle.hem_cli.specs.StateText.{word_of, state_text};
 ghost use Rattle.hem_cli.specs.Singles.{singles};
-ghost use Rattle.hem_cli.specs.OneForm.{IsDocument};
+ghost use Rattle.hem_cli.specs.OneFormDocument.{IsDocument};
 
 use crate::Status;
 use crate::cell::Cell;
