@@ -5,3 +5,4 @@ pub mod Streams
 pub mod Tokens
 pub mod Spans
 pub mod Machine
+pub mod Words

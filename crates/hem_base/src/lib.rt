@@ -9,6 +9,7 @@ mod name;
 mod outside;
 mod setup;
 mod text;
+mod words;
 
 pub use grammar::{Stands, Symbol};
 pub use ids::{
@@ -20,3 +21,4 @@ pub use name::Name;
 pub use outside::{Failed, Gate, OutOfMemory, Sink, Source};
 pub use setup::{Setup, SetupCause};
 pub use text::{Cause, Piece, Place, Token, TokenKind};
+pub use words::{Reserved, Sign, is_reserved, sign_bytes, word_bytes};
