@@ -19,7 +19,6 @@ use Rattle.hem_cli.specs.OneFormMeaning.{one_form}
 use Rattle.hem_cli.specs.OneFormDocument.{document_of, ReadsAll, IsDocument}
 
 module _ (s : State Read Terminal Item) (bytes : List ℕ) (tokens : List Token) where
-
   -- the reader came to the end of the tokens
   pub all_read : (n : ℕ) (e : Read) → Reads one_form s (map (lexeme_of bytes) (drop 0 tokens)) (n - 0) e → n ≡ length tokens → Reads one_form s (map (lexeme_of bytes) tokens) (length tokens) e
   all_read n e reads is = let k : n - 0 ≡ length tokens = omega (arith, is) in rw k at reads
@@ -44,7 +43,6 @@ document_once bytes d b h k =
     same_document h.read k.read d b same.1 h.says k.says
 
 module _ (bytes : List ℕ) (tokens : List Token) (old : Read) (stack : List (Symbol Terminal Item)) (t : tokens ≡ tokens_of bytes) (o : old ≡ nothing_read) (s : stack ≡ start) where
-
   reads_all : (e : Read) → Reads one_form (state old stack) (map (lexeme_of bytes) tokens) (length tokens) e → ReadsAll bytes (tokens_of bytes) e
   reads_all e h = rw (o, s, t) at h
 

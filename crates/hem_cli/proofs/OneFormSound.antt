@@ -36,7 +36,6 @@ one_rule e v s = record {
   plain = is_plain_of v;
 }
 
-
 pub with_rule : (e : Read) (v : Plain) (rules : List Rule) (guard : List Atom) (sets : List Assign) → IsSound e → rules ≡ e.rules ++ rule_sending e (value_of v) ∷ [] → guard ≡ [] → sets ≡ [] →
     IsSound (record e { rules = rules; guard = guard; sets = sets })
 with_rule e v rules guard sets s is no_guard no_sets = record {

@@ -59,11 +59,7 @@ fn are_good(words: &[String]) -> bool
 }
 
 /// The text of a history that runs: the word, each firing as a block of its own, and the end state.
-fn grouped_text(
-    alloc: Global,
-    document: &Document,
-    cells: &[Cell],
-) -> Result<Vec<u8>, OutOfMemory>
+fn grouped_text(alloc: Global, document: &Document, cells: &[Cell]) -> Result<Vec<u8>, OutOfMemory>
     requires { 1 ≤ length cells.now }
     ensures { IfOk result (λ text. text.items ≡ word_of (cells.now ∷ [])
         ++ blocks_text document.now.protocol (singles 0 document.now.history)
@@ -105,11 +101,17 @@ fn replayed(alloc: Global, document: &Document) -> Result<Reply, OutOfMemory>
     match end.illegal {
         Some(place) => {
             let text = stopped_text(alloc, document, place, cells)?;
-            Ok(Reply { status: Status::Illegal, text })
+            Ok(Reply {
+                status: Status::Illegal,
+                text,
+            })
         }
         None => {
             let text = grouped_text(alloc, document, cells)?;
-            Ok(Reply { status: Status::Done, text })
+            Ok(Reply {
+                status: Status::Done,
+                text,
+            })
         }
     }
 }

@@ -301,6 +301,7 @@ impl Draft {
 
 impl Language for Draft {
     type Terminal = Terminal;
+
     type Item = Item;
 
     ghost grammar = { one_form };

@@ -177,7 +177,14 @@ pub(crate) fn firsts(item: Item) -> &'static [Terminal]
     match item {
         Item::MoreStatuses => &[Terminal::New(Declared::Status)],
         Item::Messages => &[Terminal::Word(Reserved::Message)],
-        Item::Classes => &[Terminal::Class(Class::ExtReq), Terminal::Class(Class::ExtRsp), Terminal::Class(Class::UpReq), Terminal::Class(Class::UpRsp), Terminal::Class(Class::DownReq), Terminal::Class(Class::DownRsp)],
+        Item::Classes => &[
+            Terminal::Class(Class::ExtReq),
+            Terminal::Class(Class::ExtRsp),
+            Terminal::Class(Class::UpReq),
+            Terminal::Class(Class::UpRsp),
+            Terminal::Class(Class::DownReq),
+            Terminal::Class(Class::DownRsp),
+        ],
         Item::Fields => &[Terminal::Word(Reserved::Field)],
         Item::Rules => &[Terminal::Word(Reserved::Rule)],
         Item::When => &[Terminal::Word(Reserved::When)],
@@ -186,9 +193,17 @@ pub(crate) fn firsts(item: Item) -> &'static [Terminal]
         Item::MoreConditions => &[Terminal::Comma(Listed::Conditions)],
         Item::Sets => &[Terminal::Word(Reserved::Set)],
         Item::Assignment => &[Terminal::Field(FieldUse::Written), Terminal::Val],
-        Item::Written => &[Terminal::Value(ValueUse::Written, Plain::Val), Terminal::Value(ValueUse::Written, Plain::Msg), Terminal::Value(ValueUse::Written, Plain::Zero)],
+        Item::Written => &[
+            Terminal::Value(ValueUse::Written, Plain::Val),
+            Terminal::Value(ValueUse::Written, Plain::Msg),
+            Terminal::Value(ValueUse::Written, Plain::Zero),
+        ],
         Item::MoreAssignments => &[Terminal::Comma(Listed::Assignments)],
-        Item::Sent => &[Terminal::Value(ValueUse::Sent, Plain::Val), Terminal::Value(ValueUse::Sent, Plain::Msg), Terminal::Value(ValueUse::Sent, Plain::Zero)],
+        Item::Sent => &[
+            Terminal::Value(ValueUse::Sent, Plain::Val),
+            Terminal::Value(ValueUse::Sent, Plain::Msg),
+            Terminal::Value(ValueUse::Sent, Plain::Zero),
+        ],
         Item::MoreLeaves => &[Terminal::MoreLeaf],
         Item::Entries => &[Terminal::Word(Reserved::At)],
         Item::Requests => &[Terminal::Message(MessageUse::Asked)],
@@ -201,19 +216,69 @@ pub(crate) fn follows(terminal: Terminal) -> &'static [Part]
     ensures { result.now ≡ follows terminal }
 {
     match terminal {
-        Terminal::Word(Reserved::Message) => &[Symbol::One(Terminal::New(Declared::Message)), Symbol::Item(Item::Classes)],
-        Terminal::Word(Reserved::Field) => &[Symbol::One(Terminal::New(Declared::Field)), Symbol::One(Terminal::Word(Reserved::Init)), Symbol::One(Terminal::Status(StatusUse::FirstOfField))],
-        Terminal::Word(Reserved::Rule) => &[Symbol::One(Terminal::New(Declared::Rule)), Symbol::One(Terminal::Word(Reserved::Take)), Symbol::One(Terminal::Word(Reserved::Me)), Symbol::One(Terminal::Message(MessageUse::Taken)), Symbol::One(Terminal::Word(Reserved::Need)), Symbol::One(Terminal::Word(Reserved::Up)), Symbol::One(Terminal::Word(Reserved::Free)), Symbol::One(Terminal::Word(Reserved::Down)), Symbol::One(Terminal::Word(Reserved::Free)), Symbol::Maybe(Item::When), Symbol::Maybe(Item::Sets), Symbol::One(Terminal::Word(Reserved::Send)), Symbol::One(Terminal::Word(Reserved::Me)), Symbol::One(Terminal::Message(MessageUse::Sent)), Symbol::Item(Item::Sent), Symbol::One(Terminal::Word(Reserved::End))],
-        Terminal::Word(Reserved::When) => &[Symbol::Item(Item::Condition), Symbol::Many(Item::MoreConditions)],
-        Terminal::Field(FieldUse::Guard) => &[Symbol::One(Terminal::Word(Reserved::In)), Symbol::One(Terminal::Status(StatusUse::InSet)), Symbol::Many(Item::MoreInSet)],
+        Terminal::Word(Reserved::Message) => &[
+            Symbol::One(Terminal::New(Declared::Message)),
+            Symbol::Item(Item::Classes),
+        ],
+        Terminal::Word(Reserved::Field) => &[
+            Symbol::One(Terminal::New(Declared::Field)),
+            Symbol::One(Terminal::Word(Reserved::Init)),
+            Symbol::One(Terminal::Status(StatusUse::FirstOfField)),
+        ],
+        Terminal::Word(Reserved::Rule) => &[
+            Symbol::One(Terminal::New(Declared::Rule)),
+            Symbol::One(Terminal::Word(Reserved::Take)),
+            Symbol::One(Terminal::Word(Reserved::Me)),
+            Symbol::One(Terminal::Message(MessageUse::Taken)),
+            Symbol::One(Terminal::Word(Reserved::Need)),
+            Symbol::One(Terminal::Word(Reserved::Up)),
+            Symbol::One(Terminal::Word(Reserved::Free)),
+            Symbol::One(Terminal::Word(Reserved::Down)),
+            Symbol::One(Terminal::Word(Reserved::Free)),
+            Symbol::Maybe(Item::When),
+            Symbol::Maybe(Item::Sets),
+            Symbol::One(Terminal::Word(Reserved::Send)),
+            Symbol::One(Terminal::Word(Reserved::Me)),
+            Symbol::One(Terminal::Message(MessageUse::Sent)),
+            Symbol::Item(Item::Sent),
+            Symbol::One(Terminal::Word(Reserved::End)),
+        ],
+        Terminal::Word(Reserved::When) => &[
+            Symbol::Item(Item::Condition),
+            Symbol::Many(Item::MoreConditions),
+        ],
+        Terminal::Field(FieldUse::Guard) => &[
+            Symbol::One(Terminal::Word(Reserved::In)),
+            Symbol::One(Terminal::Status(StatusUse::InSet)),
+            Symbol::Many(Item::MoreInSet),
+        ],
         Terminal::Comma(Listed::Conditions) => &[Symbol::Item(Item::Condition)],
-        Terminal::Word(Reserved::Set) => &[Symbol::Item(Item::Assignment), Symbol::Many(Item::MoreAssignments)],
-        Terminal::Field(FieldUse::Written) => &[Symbol::One(Terminal::Sign(Sign::Assign)), Symbol::One(Terminal::Status(StatusUse::Written))],
-        Terminal::Val => &[Symbol::One(Terminal::Sign(Sign::Assign)), Symbol::Item(Item::Written)],
+        Terminal::Word(Reserved::Set) => &[
+            Symbol::Item(Item::Assignment),
+            Symbol::Many(Item::MoreAssignments),
+        ],
+        Terminal::Field(FieldUse::Written) => &[
+            Symbol::One(Terminal::Sign(Sign::Assign)),
+            Symbol::One(Terminal::Status(StatusUse::Written)),
+        ],
+        Terminal::Val => &[
+            Symbol::One(Terminal::Sign(Sign::Assign)),
+            Symbol::Item(Item::Written),
+        ],
         Terminal::Comma(Listed::Assignments) => &[Symbol::Item(Item::Assignment)],
-        Terminal::Word(Reserved::At) => &[Symbol::One(Terminal::Number(NumberUse::Object)), Symbol::One(Terminal::Word(Reserved::Line)), Symbol::One(Terminal::Number(NumberUse::Line)), Symbol::Many(Item::Requests)],
-        Terminal::Message(MessageUse::Asked) => &[Symbol::One(Terminal::Number(NumberUse::Request))],
-        Terminal::Number(NumberUse::FiringLine) => &[Symbol::One(Terminal::Number(NumberUse::FiringObject)), Symbol::One(Terminal::FiringRule)],
+        Terminal::Word(Reserved::At) => &[
+            Symbol::One(Terminal::Number(NumberUse::Object)),
+            Symbol::One(Terminal::Word(Reserved::Line)),
+            Symbol::One(Terminal::Number(NumberUse::Line)),
+            Symbol::Many(Item::Requests),
+        ],
+        Terminal::Message(MessageUse::Asked) => &[Symbol::One(Terminal::Number(
+            NumberUse::Request,
+        ))],
+        Terminal::Number(NumberUse::FiringLine) => &[
+            Symbol::One(Terminal::Number(NumberUse::FiringObject)),
+            Symbol::One(Terminal::FiringRule),
+        ],
         _ => &[],
     }
 }
