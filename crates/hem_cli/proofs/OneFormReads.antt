@@ -1,7 +1,6 @@
 -- The tokens that are read, and the document that they say.
-use Rattle.std.proofs.Common.{◌≡◌, ◌≢◌, ℕ, ◌-◌, List, length, drop, refl, sym, ap, ◌∙◌, arith, Option, Some, None}
+use Rattle.std.proofs.Common.{◌≡◌, ◌≢◌, ℕ, ◌-◌, List, length, drop, sym, ap, ◌∙◌, arith, Option, Some, None}
 use Rattle.std.specs.Prelude.{map, IfSome, IsNone}
-use Rattle.std.proofs.lemmas.List.{length-map}
 use Rattle.hem_base.specs.declared.text.Token.{Token}
 use Rattle.hem_base.specs.declared.grammar.Symbol.{Symbol}
 use Rattle.hem_base.specs.Tokens.{tokens_of}

@@ -1,18 +1,17 @@
 -- What stays true while a document is read.
-use Rattle.std.proofs.Common.{rules, ◌≡◌, ℕ, ◌-◌, zero, suc, Bool, true, false, ◌&&◌, List, [], ◌∷◌, ◌++◌, length, refl, sym, ap, ◌∙◌, arith, Option, Some, None, IsTrue, get_or}
-use Rattle.std.specs.Prelude.{slice_set, slice_get, All}
+use Rattle.std.proofs.Common.{rules, ◌≡◌, ℕ, ◌-◌, zero, suc, Bool, true, false, ◌&&◌, List, [], ◌∷◌, ◌++◌, length, refl, Option, Some, None, IsTrue}
+use Rattle.std.specs.Prelude.{slice_set, slice_get}
 use Rattle.std.specs.List.{list_all}
 use Rattle.std.proofs.lemmas.List.Elements.{All-push}
 use Rattle.hem_base.specs.declared.ids.StatusSet.{StatusSet}
 use Rattle.hem_syntax.specs.declared.rule.Rule.{Rule}
 use Rattle.hem_syntax.specs.declared.rule.Atom.{Atom}
 use Rattle.hem_syntax.specs.declared.rule.Assign.{Assign}
-use Rattle.hem_syntax.specs.declared.rule.Value.{Value}
 use Rattle.hem_fire.specs.OneRule.{IsOneRule, is_field_atom, is_plain_value}
 use Rattle.hem_cli.specs.declared.form.table.Plain.{Plain}
 use Rattle.hem_cli.specs.declared.form.table.Plain.TheVariants as plain
 use Rattle.hem_cli.specs.OneFormRead.{Read, IsSound}
-use Rattle.hem_cli.specs.OneFormMeaning.{rule_sending, value_of, changed, change, change_last}
+use Rattle.hem_cli.specs.OneFormMeaning.{rule_sending, value_of, changed, change_last}
 
 is_plain_of : (v : Plain) → IsTrue (is_plain_value (value_of v))
 is_plain_of plain.Val = search rules

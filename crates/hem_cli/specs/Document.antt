@@ -1,5 +1,5 @@
 -- A document of the one-step form: a protocol whose leaves answer at once, a root with leaves, requests and a history.
-use Rattle.std.specs.Prelude.{ℕ, ◌≡◌, ◌≤◌, zero, suc, List, [], ◌∷◌, length, Option, Some, None, All, IsSome}
+use Rattle.std.specs.Prelude.{ℕ, ◌≡◌, ◌≤◌, zero, suc, List, [], ◌∷◌, length, Some, None, All}
 use Rattle.hem_base.specs.declared.ids.Message.{Message}
 use Rattle.hem_base.specs.declared.ids.Firing.{Firing}
 use Rattle.hem_base.specs.declared.ids.Kind.TheVariants.{Root, Leaf}
@@ -48,8 +48,12 @@ pub record IsOneStep (d : Document) : Type 0 where
   pub mid_rules : d.protocol.mid.rules ≡ []
   pub leaf_rules : All IsOneRule d.protocol.leaf.rules
   pub leaf_dir : d.protocol.leaf.dir ≡ None
+  pub few_statuses : length d.protocol.statuses ≤ 4
+  pub few_messages : length d.protocol.messages ≤ 64
+  pub few_rules : length d.protocol.rule_names ≤ 64
   pub few_fields : length d.protocol.leaf.fields ≤ 3
   pub no_root_fields : d.protocol.root.fields ≡ []
+  pub no_mid_fields : d.protocol.mid.fields ≡ []
   pub some_leaf : 1 ≤ d.leaves
   pub few_leaves : d.leaves ≤ 8
   pub each_leaf : length d.requests ≡ d.leaves

@@ -6,7 +6,6 @@ use Rattle.hem_base.specs.Sets.{has_bit}
 use Rattle.hem_base.specs.declared.ids.Status8.{Status8}
 use Rattle.hem_base.specs.declared.ids.StatusSet.{StatusSet}
 use Rattle.hem_base.specs.declared.ids.MsgId.{MsgId}
-use Rattle.hem_base.specs.declared.ids.Message.{Message}
 use Rattle.hem_base.specs.declared.ids.Firing.{Firing}
 use Rattle.hem_base.specs.declared.text.TokenKind.{TokenKind}
 use Rattle.hem_base.specs.declared.text.TokenKind.TheVariants as kind
@@ -21,7 +20,6 @@ use Rattle.hem_syntax.specs.declared.rule.Hold.TheVariants as hold
 use Rattle.hem_syntax.specs.declared.rule.SendTo.TheVariants as send
 use Rattle.hem_syntax.specs.declared.rule.Value.{Value}
 use Rattle.hem_syntax.specs.declared.rule.Value.TheVariants as value
-use Rattle.hem_syntax.specs.declared.rule.Atom.{Atom}
 use Rattle.hem_syntax.specs.declared.rule.Atom.TheVariants as atom
 use Rattle.hem_syntax.specs.declared.rule.Assign.{Assign}
 use Rattle.hem_syntax.specs.declared.rule.Assign.TheVariants as assign

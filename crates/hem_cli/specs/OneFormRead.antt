@@ -1,5 +1,5 @@
 -- What has been read of a document of the one-step form.
-use Rattle.std.specs.Prelude.{ℕ, ◌≡◌, ◌≤◌, List, [], ◌∷◌, length, Option, None, All, IsTrue}
+use Rattle.std.specs.Prelude.{ℕ, ◌≤◌, List, [], ◌∷◌, length, Option, None, All, IsTrue}
 use Rattle.std.specs.List.{list_all}
 use Rattle.hem_base.specs.declared.ids.Status8.{Status8}
 use Rattle.hem_base.specs.declared.ids.StatusSet.{StatusSet}

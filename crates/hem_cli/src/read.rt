@@ -58,3 +58,6 @@ pub(crate) fn read_document(alloc: Global, bytes: &[u8]) -> Result<Option<Docume
         Ok(None)
     }
 }
+
+#[cfg(test)]
+mod tests;

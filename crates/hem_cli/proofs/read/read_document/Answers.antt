@@ -1,4 +1,4 @@
-use Rattle.std.proofs.Common.{rules, ◌∙◌, refl}
+use Rattle.std.proofs.Common.{◌∙◌}
 use Rattle.hem_cli.proofs.OneFormReads.{is_document, says_nothing, no_document}
 use Rattle.hem_cli.proofs.read.read_document.Goals as goal
 

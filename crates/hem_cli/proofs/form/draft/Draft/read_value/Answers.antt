@@ -1,4 +1,4 @@
-use Rattle.std.proofs.Common.{◌≡◌, [], rules}
+use Rattle.std.proofs.Common.{rules}
 use Rattle.hem_cli.specs.OneFormView.{read_of}
 use Rattle.hem_cli.proofs.OneFormSound.{with_rule}
 use Rattle.hem_cli.proofs.form.draft.Draft.read_value.Goals as goal
