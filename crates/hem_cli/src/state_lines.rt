@@ -198,3 +198,6 @@ pub(crate) fn is_quiet(cells: &[Cell]) -> bool
 {
     all_idle(cells)
 }
+
+#[cfg(test)]
+mod tests;
