@@ -5,7 +5,7 @@ use Rattle.std.specs.Io.KnownBytes.{Appends}
 use Rattle.hem_io.specs.Reading.{AppendsPrefix}
 use Rattle.hem_cli.specs.Outcome.{Says, Writes, OfBytes}
 use Rattle.hem_cli.specs.declared.status.Status.{Status}
-use Rattle.hem_cli.specs.declared.status.Status.TheVariants.{Done, Usage, ReadFault, WriteFault, TooLong, Text, Refused, Setup, Illegal, Memory, NotBuilt}
+use Rattle.hem_cli.specs.declared.status.Status.TheVariants.{WriteFault, Memory}
 
 of_nothing : (left : Option (List ℕ)) → OfBytes left (λ bytes. ⊥) → ⊥
 of_nothing None some = some.1

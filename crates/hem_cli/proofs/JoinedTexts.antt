@@ -1,6 +1,6 @@
 -- Texts with commas between them, as a loop makes them.
-use Rattle.std.proofs.Common.{◌≡◌, refl, ap, ℕ, ◌+◌, ◌<◌, suc, add-one, List, [], ◌∷◌, ◌++◌, append_assoc, map, Bool, true, false, length, drop, drop-cons, get_or}
-use Rattle.std.specs.List.{join_by, flat_map, enumerate_from}
+use Rattle.std.proofs.Common.{◌≡◌, refl, ℕ, ◌+◌, ◌<◌, add-one, List, [], ◌∷◌, ◌++◌, append_assoc, map, true, false, length, drop, drop-cons, get_or}
+use Rattle.std.specs.List.{flat_map, enumerate_from}
 use Rattle.std.specs.Prelude.{codes, filter}
 use Rattle.hem_base.specs.Sets.{has_bit}
 use Rattle.hem_base.specs.declared.ids.KidSet.{KidSet}

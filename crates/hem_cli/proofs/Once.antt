@@ -1,20 +1,18 @@
 -- Words and bytes have one answer.
-use Rattle.std.proofs.Common.{◌≡◌, refl, ap, subst, arith, ℕ, ◌<◌, ◌≤◌, List, ◌++◌, Option, Some, None, sym, ◌∙◌, inl, inr}
+use Rattle.std.proofs.Common.{◌≡◌, refl, ap, subst, arith, ℕ, List, ◌++◌, Option, Some, None, sym, ◌∙◌, inl, inr}
 use Rattle.std.specs.Prelude.{IfSome, ◌⊎◌}
 use Rattle.std.specs.Io.KnownBytes.{Appends}
-use Rattle.hem_io.specs.Reading.{AppendsPrefix}
-use Rattle.hem_cli.specs.State.{State, Runs}
+use Rattle.hem_cli.specs.State.{State}
 use Rattle.hem_cli.specs.Order.{entries_of, printed}
 use Rattle.hem_cli.specs.Document.{Document, tree_of, start_of}
 use Rattle.hem_cli.specs.Replays.{IsReplay}
 use Rattle.hem_cli.specs.Texts.{illegal_text}
 use Rattle.hem_cli.specs.BlocksText.{blocks_text}
 use Rattle.hem_cli.specs.StateText.{word_of, state_text}
-use Rattle.hem_cli.specs.OneFormDocument.{IsDocument}
-use Rattle.hem_cli.specs.Answer.{Answer, IsGrouped, IsStopped, IsGood}
+use Rattle.hem_cli.specs.Answer.{Answer, IsGrouped, IsStopped}
 use Rattle.hem_cli.specs.Outcome.{Says, IsWhole}
 use Rattle.hem_cli.specs.declared.status.Status.{Status}
-use Rattle.hem_cli.specs.declared.status.Status.TheVariants.{Done, Usage, ReadFault, WriteFault, TooLong, Text, Refused, Setup, Illegal, Memory, NotBuilt}
+use Rattle.hem_cli.specs.declared.status.Status.TheVariants.{Done, Usage, ReadFault, WriteFault, TooLong, Illegal, Memory, NotBuilt}
 use Rattle.hem_cli.proofs.Endings.{replay_once}
 use Rattle.hem_cli.proofs.OneFormReads.{document_once}
 

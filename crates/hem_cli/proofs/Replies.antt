@@ -1,10 +1,9 @@
 -- What the replies to a document say.
-use Rattle.std.proofs.Common.{◌≡◌, ◌∙◌, refl, sym, ap, subst, arith, ℕ, ◌+◌, ◌-◌, List, [], ◌∷◌, ◌++◌, length, Option, Some, None}
+use Rattle.std.proofs.Common.{◌≡◌, ◌∙◌, refl, ap, subst, arith, ℕ, ◌+◌, ◌-◌, List, [], ◌∷◌, ◌++◌, length, Option, Some, None}
 use Rattle.hem_base.specs.declared.ids.Firing.{Firing}
 use Rattle.hem_syntax.specs.Protocol.{Protocol}
 use Rattle.hem_cli.specs.Tree.{Tree}
 use Rattle.hem_cli.specs.State.{State, Line, Runs}
-use Rattle.hem_cli.specs.Order.{entries_of, printed}
 use Rattle.hem_cli.specs.Document.{Document, IsOneStep, root_with, tree_of, start_of}
 use Rattle.hem_cli.specs.OneFormDocument.{IsDocument}
 use Rattle.hem_cli.specs.Replays.{IsIllegal, IsReplay}

@@ -6,7 +6,7 @@ use Rattle.hem_base.specs.declared.outside.OutOfMemory.{OutOfMemory}
 use Rattle.hem_io.specs.Reading.{ReadsAll, TakesFront}
 use Rattle.hem_cli.specs.declared.answer.Reply.{Reply}
 use Rattle.hem_cli.specs.declared.status.Status.{Status}
-use Rattle.hem_cli.specs.declared.status.Status.TheVariants.{Done, Usage, ReadFault, WriteFault, TooLong, Text, Refused, Setup, Illegal, Memory, NotBuilt}
+use Rattle.hem_cli.specs.declared.status.Status.TheVariants.{ReadFault, NotBuilt}
 use Rattle.hem_cli.specs.Document.{Document}
 use Rattle.hem_cli.specs.OneFormDocument.{IsDocument}
 use Rattle.hem_cli.specs.Answer.{Answer, IsGood, most_bytes}

@@ -1,6 +1,5 @@
 -- The text of blocks.
-use Rattle.std.specs.Prelude.{ℕ, ◌+◌, List, [], ◌∷◌, ◌++◌, length, flat_map, codes, decimal}
-use Rattle.hem_base.specs.declared.ids.Firing.{Firing}
+use Rattle.std.specs.Prelude.{List, ◌++◌, length, flat_map, codes, decimal}
 use Rattle.hem_syntax.specs.Protocol.{Protocol, Text}
 use Rattle.hem_cli.specs.Blocks.{Block}
 use Rattle.hem_cli.specs.Texts.{firing_text}

@@ -12,7 +12,7 @@ use Rattle.hem_fire.specs.declared.outs.To.TheVariants as to
 use Rattle.hem_fire.specs.declared.outs.Outs.{Outs}
 use Rattle.hem_cli.specs.declared.lane.Lane.{Lane}
 use Rattle.hem_cli.specs.declared.lane.Lane.TheVariants.{UpRequests, UpResponses, Down, Requests, Answers}
-use Rattle.hem_syntax.specs.Protocol.{Protocol, part, rule_named}
+use Rattle.hem_syntax.specs.Protocol.{Protocol, rule_named}
 use Rattle.hem_cli.specs.Tree.{Tree, Node, below, kind_of, parent_of, is_child, children_of, place_among}
 use Rattle.hem_syntax.specs.Local.{Local}
 use Rattle.hem_fire.specs.Start.{first_local}

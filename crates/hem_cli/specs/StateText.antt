@@ -1,5 +1,5 @@
 -- The text of a state, and whether it is quiet.
-use Rattle.std.specs.Prelude.{ℕ, ◌+◌, ◌==◌, Bool, true, false, ◌&&◌, cond, List, [], ◌∷◌, ◌++◌, map, filter, flat_map, length, Option, None, Some, slice_get, slice_index, is_none, codes, decimal}
+use Rattle.std.specs.Prelude.{ℕ, ◌==◌, Bool, ◌&&◌, cond, List, [], ◌∷◌, ◌++◌, map, filter, flat_map, length, Option, None, Some, slice_get, slice_index, is_none, codes, decimal}
 use Rattle.std.specs.List.{list_all, enumerate_from, join_by}
 use Rattle.std.specs.Option.{option_map_or}
 use Rattle.hem_base.specs.Sets.{has_bit}

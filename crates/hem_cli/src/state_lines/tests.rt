@@ -2,7 +2,8 @@ use crate::lane::Lane;
 use crate::output::Output;
 use arrayvec::ArrayVec;
 use hem_base::{
-    Firing, KidSet, Kind, LineId, List, Message, MsgId, Name, ObjectId, OutOfMemory, RuleId, Status8,
+    Firing, KidSet, Kind, LineId, List, Message, MsgId, Name, ObjectId, OutOfMemory, RuleId,
+    Status8,
 };
 use hem_fire::Local;
 use hem_syntax::{By, Class, KindPart, Lock, Protocol};
@@ -108,11 +109,46 @@ fn objects(rt: HostRuntime) -> Result<(), Fail> {
     let own = lock(By::Own, 3, 0, 0);
     let asked = lock(By::Processor, 0, 12, 0);
     for (kind, field, val, up, down, want) in [
-        (Kind::Root, None, 0, None, None, "7 root val=0 up=free down=free dir=I,S\n"),
-        (Kind::Leaf, Some(1), 0, None, None, "7 leaf st=S val=0 up=free down=free\n"),
-        (Kind::Root, None, 5, up, down, "7 root val=5 up=9:Ld:3 down=parent:Inv:0:8,10 dir=I,S\n"),
-        (Kind::Mid, None, 6, None, own, "7 mid val=6 up=free down=self:Inv:0: dir=I,S\n"),
-        (Kind::Leaf, Some(0), 0, asked, None, "7 leaf st=I val=0 up=cpu:Ld:12 down=free\n"),
+        (
+            Kind::Root,
+            None,
+            0,
+            None,
+            None,
+            "7 root val=0 up=free down=free dir=I,S\n",
+        ),
+        (
+            Kind::Leaf,
+            Some(1),
+            0,
+            None,
+            None,
+            "7 leaf st=S val=0 up=free down=free\n",
+        ),
+        (
+            Kind::Root,
+            None,
+            5,
+            up,
+            down,
+            "7 root val=5 up=9:Ld:3 down=parent:Inv:0:8,10 dir=I,S\n",
+        ),
+        (
+            Kind::Mid,
+            None,
+            6,
+            None,
+            own,
+            "7 mid val=6 up=free down=self:Inv:0: dir=I,S\n",
+        ),
+        (
+            Kind::Leaf,
+            Some(0),
+            0,
+            asked,
+            None,
+            "7 leaf st=I val=0 up=cpu:Ld:12 down=free\n",
+        ),
     ] {
         let line = line_of(alloc, kind, &local(field, val, up, down))?;
         assert_eq!(rt; line.as_slice(), want.as_bytes());
@@ -144,7 +180,8 @@ fn lines(alloc: Global) -> Result<Vec<u8>, OutOfMemory> {
 #[test]
 fn lists_and_blocks(rt: HostRuntime) -> Result<(), Fail> {
     let lines = lines(rt.alloc())?;
-    let want = "ans 12 LdR:18446744073709551615 StR:18446744073709551615\nblocks 2\nblock 0\n0 1 ld_hit\nblock 1\n0 1 gets_hit from 2\nillegal 10\n";
+    let want =
+        "ans 12 LdR:18446744073709551615 StR:18446744073709551615\nblocks 2\nblock 0\n0 1 ld_hit\nblock 1\n0 1 gets_hit from 2\nillegal 10\n";
     assert_eq!(rt; lines.as_slice(), want.as_bytes());
     Ok(())
 }

@@ -1,4 +1,4 @@
-use Rattle.std.proofs.Common.{◌≡◌, refl, ap, Err}
+use Rattle.std.proofs.Common.{refl, ap, Err}
 use Rattle.hem_cli.proofs.Said.{past, said, read_says}
 use Rattle.hem_cli.proofs.answer.answer.Goals as goal
 

@@ -1,4 +1,4 @@
-use Rattle.std.proofs.Common.{◌≡◌, ◌∙◌, ◌+◌, arith, refl}
+use Rattle.std.proofs.Common.{◌≡◌, ◌+◌, arith, refl}
 use Rattle.hem_cli.proofs.Stars.{children_more, children_of_root}
 use Rattle.hem_cli.proofs.star.Star.make.Goals as goal
 
