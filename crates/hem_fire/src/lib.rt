@@ -8,10 +8,12 @@ mod heads;
 mod kids;
 mod local;
 mod locks;
+mod lookup;
 mod outs;
 mod possible;
-mod said;
 mod sends;
+#[cfg(test)]
+mod tests;
 mod view;
 
 pub use firing::fire;

@@ -5,7 +5,7 @@ ghost use Rattle.hem_fire.specs.Locks.{need_holds, if_request, request_in_hand, 
 
 use crate::heads::Heads;
 use crate::local::Local;
-use crate::said::is_request_id;
+use crate::lookup::is_request_id;
 use crate::sends::message_of;
 use hem_base::{KidSet, Message};
 use hem_syntax::{By, Hold, Lock, Origin, Protocol, SendTo, Side, Take, View};

@@ -41,7 +41,7 @@ impl Local {
     }
 
     /// Whether everything that the sets name exists.
-    fn all_names_exist(&self, sets: &[Assign], view: &View) -> bool
+    pub(crate) fn all_names_exist(&self, sets: &[Assign], view: &View) -> bool
         ensures { result ≡ list_all (assign_names self.now view.now) sets.now }
     {
         sets.iter().all(|set| self.names_exist(*set, view))

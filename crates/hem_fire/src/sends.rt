@@ -5,8 +5,8 @@ ghost use Rattle.hem_syntax.specs.Guard.{value_of};
 ghost use Rattle.hem_fire.specs.Sends.{message_of, has_parent, send_names, to_requester, goes_to, targets_of};
 
 use crate::local::Local;
+use crate::lookup::class_of;
 use crate::outs::To;
-use crate::said::class_of;
 use hem_base::{Kind, Message, MsgId};
 use hem_syntax::{By, Class, Protocol, SendTo, View};
 

@@ -1,4 +1,4 @@
-//! What a protocol says of a kind and of a message id.
+//! Look-ups in a protocol: what it says of a kind and of a message id.
 
 ghost use Rattle.std.specs.Prelude.{◌≡◌, false};
 ghost use Rattle.std.specs.Option.{option_map_or};
