@@ -198,6 +198,3 @@ pub(crate) fn is_quiet(cells: &[Cell]) -> bool
 {
     all_idle(cells)
 }
-
-#[cfg(test)]
-mod tests;
