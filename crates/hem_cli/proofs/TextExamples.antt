@@ -14,7 +14,8 @@ use Rattle.hem_syntax.specs.Local.{Local}
 use Rattle.hem_cli.specs.Document.{root_with}
 use Rattle.hem_cli.specs.State.{Cell}
 use Rattle.hem_cli.specs.Texts.{illegal_text}
-use Rattle.hem_cli.specs.BlocksText.{blocks_text, singles}
+use Rattle.hem_cli.specs.BlocksText.{blocks_text}
+use Rattle.hem_cli.specs.Singles.{singles}
 use Rattle.hem_cli.specs.StateText.{object_line, state_text, word_of}
 
 -- a protocol of a leaf that reads at once
