@@ -1,0 +1,3 @@
+mod Grows
+mod Noting
+mod Answered

@@ -1,0 +1,219 @@
+//! The grammar of histories.
+
+ghost use Rattle.std.specs.Prelude.{◌≡◌, ◌-◌, length, slice_get, IfOk};
+ghost use Rattle.hem_base.specs.Machine.{lexeme};
+ghost use Rattle.hem_syntax.specs.Reading.{is_word, is_number, is_the_word, is_name};
+ghost use Rattle.hem_trace.specs.Grammar.{start, firsts, follows, stands, with_child, grammar, nothing};
+
+use crate::limits::{MOST_FIRINGS, MOST_NUMBER};
+use crate::numbers::{is_at_most, value_of};
+use crate::rules::RuleNames;
+use hem_base::{
+    Firing, LineId, List, ObjectId, OutOfMemory, Place, Reserved, RuleId, Stands, Symbol,
+    TokenKind, is_reserved, word_bytes,
+};
+use hem_syntax::Protocol;
+use hem_text::Language;
+use std::alloc::Global;
+use std::marker::Model;
+
+/// A token of a history, by what it means.
+#[derive(Clone, Copy, Debug, PartialEq, Eq)]
+pub enum Terminal {
+    /// The word that begins a history.
+    History,
+    /// The number of a firing's line, with which the firing begins.
+    Line,
+    /// The number of the object that fires.
+    Object,
+    /// The name of the rule that it fires.
+    Rule,
+    /// The word before a child.
+    From,
+    /// The number of the child from which the rule takes a message.
+    Child,
+    /// The word that ends a history.
+    End,
+}
+
+/// What may stand several times in a history, or not at all.
+#[derive(Clone, Copy, Debug, PartialEq, Eq)]
+pub enum Item {
+    Firing,
+    /// The child of a firing.
+    Child,
+}
+
+/// A history as far as it has been read, over the rule names of a protocol. `line` and `object` are of the firing that is
+/// being read.
+#[derive(Drop)]
+pub struct HistoryDraft<'a> {
+    pub(crate) rule_names: RuleNames<'a>,
+    pub(crate) firings: List<Firing>,
+    pub(crate) line: LineId,
+    pub(crate) object: ObjectId,
+}
+
+impl<'a> Model for HistoryDraft<'a> {
+    ghost use Rattle.hem_trace.specs.Grammar.{Read};
+
+    ghost Value = { Read };
+
+    ghost view = { λ d. record {
+      rule_names = d.rule_names;
+      firings = d.firings;
+      line = d.line;
+      object = d.object;
+    } };
+}
+
+/// What a history's text begins with.
+pub(crate) fn start() -> &'static [Symbol<Terminal, Item>]
+    ensures { result.now ≡ start }
+{
+    &[
+        Symbol::One(Terminal::History),
+        Symbol::Many(Item::Firing),
+        Symbol::One(Terminal::End),
+    ]
+}
+
+/// Nothing is read yet.
+pub(crate) fn nothing<'a>(alloc: Global, p: &'a Protocol) -> Result<HistoryDraft<'a>, OutOfMemory>
+    ensures { IfOk result (λ d. d ≡ nothing p.entry.now) }
+{
+    Ok(HistoryDraft {
+        rule_names: RuleNames::new(alloc, p.rule_names.as_slice())?,
+        firings: List::new(alloc),
+        line: LineId(0),
+        object: ObjectId(0),
+    })
+}
+
+fn is_word(kind: TokenKind) -> bool
+    ensures { result ≡ is_word kind }
+{
+    match kind {
+        TokenKind::Word => true,
+        _ => false,
+    }
+}
+
+fn is_number(kind: TokenKind) -> bool
+    ensures { result ≡ is_number kind }
+{
+    match kind {
+        TokenKind::Number => true,
+        _ => false,
+    }
+}
+
+fn is_the_word(word: Reserved, kind: TokenKind, text: &[u8]) -> bool
+    ensures { result ≡ is_the_word word kind text.now }
+{
+    is_word(kind) && word_bytes(word) == text
+}
+
+/// Lets the last firing take from a child.
+fn set_child(firings: &mut List<Firing>, child: u32)
+    ensures { firings.new ≡ with_child firings.old (slice_get firings.old (length firings.old - 1)) child }
+{
+    let len = firings.len();
+    if len > 0 {
+        firings.at_mut(len - 1).me = Some(ObjectId(child));
+    }
+}
+
+impl<'a> Language for HistoryDraft<'a> {
+    type Terminal = Terminal;
+
+    type Item = Item;
+
+    ghost grammar = { grammar };
+
+    fn firsts(item: Item) -> &'static [Terminal]
+        ensures { result.now ≡ firsts item }
+    {
+        match item {
+            Item::Firing => &[Terminal::Line],
+            Item::Child => &[Terminal::From],
+        }
+    }
+
+    fn follows(terminal: Terminal) -> &'static [Symbol<Terminal, Item>]
+        ensures { result.now ≡ follows terminal }
+    {
+        match terminal {
+            Terminal::Line => &[
+                Symbol::One(Terminal::Object),
+                Symbol::One(Terminal::Rule),
+                Symbol::Maybe(Item::Child),
+            ],
+            Terminal::From => &[Symbol::One(Terminal::Child)],
+            _ => &[],
+        }
+    }
+
+    fn stands(terminal: Terminal) -> Stands
+        ensures { result ≡ stands terminal }
+    {
+        match terminal {
+            Terminal::Rule => Stands::Used,
+            Terminal::Line | Terminal::Object | Terminal::Child => Stands::Other,
+            _ => Stands::Reserved,
+        }
+    }
+
+    fn is_name(kind: TokenKind, text: &[u8], place: Place) -> bool
+        ensures { result ≡ is_name kind text.now }
+    {
+        is_word(kind) && !is_reserved(text)
+    }
+
+    fn spells(&self, terminal: Terminal, kind: TokenKind, text: &[u8], _place: Place) -> bool {
+        match terminal {
+            Terminal::History => is_the_word(Reserved::History, kind, text),
+            Terminal::Rule => is_word(kind) && self.rule_names.place(text).is_some(),
+            Terminal::From => is_the_word(Reserved::From, kind, text),
+            Terminal::End => is_the_word(Reserved::End, kind, text),
+            Terminal::Line | Terminal::Object | Terminal::Child => is_number(kind),
+        }
+    }
+
+    fn is_within(&self, terminal: Terminal, _kind: TokenKind, text: &[u8], _place: Place) -> bool {
+        match terminal {
+            Terminal::Line => is_at_most(text, MOST_NUMBER) && self.firings.len() < MOST_FIRINGS,
+            Terminal::Object | Terminal::Child => is_at_most(text, MOST_NUMBER),
+            _ => true,
+        }
+    }
+
+    fn is_fresh(&self, _terminal: Terminal, _kind: TokenKind, _text: &[u8], _place: Place) -> bool {
+        true
+    }
+
+    fn read(
+        &mut self,
+        terminal: Terminal,
+        _kind: TokenKind,
+        text: &[u8],
+        _place: Place,
+    ) -> Result<(), OutOfMemory> {
+        match terminal {
+            Terminal::Line => self.line = LineId(value_of(text) as u32),
+            Terminal::Object => self.object = ObjectId(value_of(text) as u32),
+            Terminal::Rule => {
+                let firing = Firing {
+                    line: self.line,
+                    object: self.object,
+                    rule: RuleId(self.rule_names.place(text).unwrap_or(0)),
+                    me: None,
+                };
+                self.firings.push(firing)?;
+            }
+            Terminal::Child => set_child(&mut self.firings, value_of(text) as u32),
+            Terminal::History | Terminal::From | Terminal::End => {}
+        }
+        Ok(())
+    }
+}

@@ -1,0 +1,8 @@
+pub mod Kept
+pub mod Reading
+pub mod Nearest
+pub mod Paths
+pub mod Lawful
+pub mod Refused
+pub mod Building
+pub mod Early

@@ -1,0 +1,82 @@
+-- The grammar of trees:  TREE = tree root ( NODE {NODE} )     NODE = leaf | mid ( NODE {NODE} )
+use Rattle.std.specs.Prelude.{ℕ, ◌+◌, ◌-◌, ◌&&◌, Bool, true, false, List, [], ◌∷◌, ◌++◌, codes}
+use Rattle.std.specs.Str.{bytes_eq}
+use Rattle.hem_base.specs.declared.ids.Kind.{Kind}
+use Rattle.hem_base.specs.declared.ids.Kind.TheVariants as kind
+use Rattle.hem_base.specs.declared.text.TokenKind.{TokenKind}
+use Rattle.hem_base.specs.declared.text.TokenKind.TheVariants as token
+use Rattle.hem_base.specs.declared.grammar.Symbol.{Symbol}
+use Rattle.hem_base.specs.declared.grammar.Symbol.TheVariants.{One, Item as One_of, Many}
+use Rattle.hem_base.specs.declared.grammar.Stands.{Stands}
+use Rattle.hem_base.specs.declared.grammar.Stands.TheVariants as stand
+use Rattle.hem_base.specs.Machine.{Grammar, Lexeme}
+use Rattle.hem_tree.specs.declared.draft.Terminal.{Terminal}
+use Rattle.hem_tree.specs.declared.draft.Terminal.TheVariants as the
+use Rattle.hem_tree.specs.declared.draft.Item.{Item}
+use Rattle.hem_tree.specs.declared.draft.Item.TheVariants as item
+use Rattle.hem_tree.specs.declared.draft.TreeDraft.{TreeDraft}
+
+abbrev pub start : List (Symbol Terminal Item)
+start = One the.Tree ∷ One (the.Node kind.Root) ∷ []
+
+abbrev pub firsts : Item → List Terminal
+firsts item.Node = the.Node kind.Leaf ∷ the.Node kind.Mid ∷ []
+
+-- what stands in parentheses after a root or a mid
+abbrev pub nest : List (Symbol Terminal Item)
+nest = One the.Open ∷ One_of item.Node ∷ Many item.Node ∷ One the.Close ∷ []
+
+abbrev pub follows : Terminal → List (Symbol Terminal Item)
+follows (the.Node kind.Root) = nest
+follows (the.Node kind.Mid) = nest
+follows _ = []
+
+abbrev pub stands : Terminal → Stands
+stands the.Tree = stand.Reserved
+stands (the.Node s) = stand.Reserved
+stands _ = stand.Other
+
+abbrev pub is_word : TokenKind → Bool
+is_word token.Word = true
+is_word _ = false
+
+abbrev pub is_sign : TokenKind → Bool
+is_sign token.Sign = true
+is_sign _ = false
+
+-- the word of a kind
+abbrev pub word_of : Kind → List ℕ
+word_of kind.Root = codes "root"
+word_of kind.Mid = codes "mid"
+word_of kind.Leaf = codes "leaf"
+
+-- how a token is spelled
+abbrev pub spells : TreeDraft → Terminal → Lexeme → Bool
+spells e the.Tree t = is_word t.kind && bytes_eq t.text (codes "tree")
+spells e (the.Node k) t = is_word t.kind && bytes_eq (word_of k) t.text
+spells e the.Open t = is_sign t.kind && bytes_eq t.text (codes "(")
+spells e the.Close t = is_sign t.kind && bytes_eq t.text (codes ")")
+
+-- what a token says: a node stands one level deeper for each parenthesis that is open
+abbrev pub after : TreeDraft → Terminal → Lexeme → TreeDraft
+after e (the.Node k) t = record e { nodes = e.nodes ++ record { kind = k; level = e.level; place = t.place } ∷ [] }
+after e the.Open t = record e { level = e.level + 1 }
+after e the.Close t = record e { level = e.level - 1 }
+after e the.Tree t = e
+
+-- no name stands in a tree, nothing is limited and nothing may not be repeated
+abbrev pub grammar : Grammar TreeDraft Terminal Item
+grammar =
+    record {
+      firsts = firsts;
+      follows = follows;
+      stands = stands;
+      is_name = λ t. false;
+      spells = spells;
+      is_within = λ e x t. true;
+      is_fresh = λ e x t. true;
+      after = after;
+    }
+
+abbrev pub nothing : TreeDraft
+nothing = record { nodes = []; level = 1 }

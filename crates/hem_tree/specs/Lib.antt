@@ -1,0 +1,6 @@
+pub mod Tree
+pub mod Grammar
+pub mod Raw
+pub mod Reading
+pub mod Limits
+pub mod Objects

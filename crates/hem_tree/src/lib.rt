@@ -1,0 +1,18 @@
+//! Trees of objects: the reader of a tree's text, and lawful trees with their queries.
+#![tactic(auto)]
+
+mod draft;
+mod limits;
+mod objects;
+mod raw;
+mod setup;
+mod tree;
+
+pub use draft::{Item, Terminal, TreeDraft};
+pub use limits::{MOST_CHILDREN, MOST_LEVELS, MOST_OBJECTS};
+pub use raw::{RawNode, RawTree, read_tree};
+pub use setup::SetupError;
+pub use tree::Tree;
+
+#[cfg(test)]
+mod tests;
