@@ -1,5 +1,0 @@
-pub mod Grows
-pub mod Reading
-pub mod Tables
-pub mod FirstFault
-pub mod Fits
