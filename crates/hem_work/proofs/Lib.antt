@@ -1,0 +1,5 @@
+pub mod Grows
+pub mod Reading
+pub mod Tables
+pub mod FirstFault
+pub mod Fits

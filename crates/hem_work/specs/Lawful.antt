@@ -1,0 +1,23 @@
+-- What every work keeps.
+use Rattle.std.specs.Prelude.{ℕ, ◌<◌, ◌≤◌, ◌≡◌, ◌≢◌, List, [], length, slice_index_or, Some, All}
+use Rattle.hem_base.specs.declared.ids.Message.{Message}
+use Rattle.hem_base.specs.declared.ids.Kind.TheVariants.{Leaf}
+use Rattle.hem_syntax.specs.Protocol.{Protocol, class_of}
+use Rattle.hem_syntax.specs.declared.rule.Class.TheVariants.{ExtReq}
+use Rattle.hem_tree.specs.Tree.{Tree, kind_of}
+use Rattle.hem_work.specs.Work.{Work, requests_of}
+use Rattle.hem_work.specs.Setup.{most_lines, most_self}
+
+-- a message is a request of a processor
+abbrev pub IsExternal : Protocol → Message → Type 0
+IsExternal p m = class_of p m.id ≡ Some ExtReq
+
+-- a work that fits a protocol and a tree: its counts are within the limits, it has a list for each line and object, and only leaves have requests, all of processors
+pub record IsLawfulWork (p : Protocol) (tree : Tree) (work : Work) : Type 0 where
+  pub some_line : 1 ≤ work.lines
+  pub few_lines : work.lines ≤ most_lines
+  pub few_self : work.self_count ≤ most_self
+  pub each_line : length work.requests ≡ work.lines
+  pub each_object : (line : ℕ) → line < work.lines → length (slice_index_or work.requests line []) ≡ length tree
+  pub leaves : (line o : ℕ) → requests_of work line o ≢ [] → kind_of tree o ≡ Some Leaf
+  pub external : (line o : ℕ) → All (IsExternal p) (requests_of work line o)

@@ -1,0 +1,7 @@
+pub mod Numbers
+pub mod Grammar
+pub mod Reading
+pub mod Work
+pub mod Setup
+pub mod Entries
+pub mod Lawful

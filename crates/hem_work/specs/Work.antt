@@ -1,0 +1,13 @@
+-- A work: what is to be done on each line.
+use Rattle.std.specs.Prelude.{ℕ, List, [], slice_index_or}
+use Rattle.hem_base.specs.declared.ids.Message.{Message}
+
+-- what is to be done: how many lines, how many self firings each object may make on a line, and the requests by line and object
+pub record Work : Type 0 where
+  pub lines : ℕ
+  pub self_count : ℕ
+  pub requests : List (List (List Message))
+
+-- the requests of an object on a line
+abbrev pub requests_of : Work → ℕ → ℕ → List Message
+requests_of work line o = slice_index_or (slice_index_or work.requests line []) o []

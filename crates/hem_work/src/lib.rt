@@ -1,0 +1,19 @@
+//! Works: the reader of a work's text, and lawful works with the requests of each leaf and line.
+#![tactic(auto)]
+
+mod draft;
+mod faults;
+mod limits;
+mod numbers;
+mod raw;
+mod rows;
+mod work;
+
+pub use draft::{Item, Terminal, WorkDraft};
+pub use limits::{MOST_LINES, MOST_REQUESTS, MOST_SELF, MOST_STARTS};
+pub use numbers::{is_at_most, number, value_of};
+pub use raw::{RawEntry, RawWork, read_work};
+pub use work::Work;
+
+#[cfg(test)]
+mod tests;

@@ -1,0 +1,13 @@
+//! The limits on a work.
+
+/// How many lines a work may have. It has at least one.
+pub const MOST_LINES: u32 = 16;
+
+/// How many firings of self rules each object may make on each line.
+pub const MOST_SELF: u32 = 1_000;
+
+/// How many requests a work may have.
+pub const MOST_REQUESTS: usize = 100_000;
+
+/// How many transactions a work may start: one for each request, and one for each firing of a self rule.
+pub const MOST_STARTS: u64 = 200_000;

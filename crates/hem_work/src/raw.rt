@@ -1,0 +1,74 @@
+//! Works as their text gives them.
+
+ghost use Rattle.std.specs.Prelude.{◌≡◌, IfOk, IfErr, OnErr};
+ghost use Rattle.hem_base.specs.Machine.{state};
+ghost use Rattle.hem_text.specs.Cursors.{IsCursor};
+ghost use Rattle.hem_text.specs.Faults.{IsFirstFault};
+ghost use Rattle.hem_work.specs.Grammar.{start, grammar, nothing};
+ghost use Rattle.hem_work.specs.Reading.{ReadsWork, raw_of};
+
+use crate::draft::{WorkDraft, nothing, start};
+use hem_base::{List, Message, Place};
+use hem_syntax::Protocol;
+use hem_text::{Cursor, Stack, TextError, read};
+use std::alloc::Global;
+
+/// An entry of a work's text: an object and a line, each as a number with its place, and requests, each with the place of
+/// its message's name.
+#[derive(Debug, Drop)]
+pub struct RawEntry {
+    pub object: (u32, Place),
+    pub line: (u32, Place),
+    pub requests: List<(Message, Place)>,
+}
+
+/// A work as its text gives it: the place of its word `work`, the number of lines and the number of self firings, each
+/// with its place, and the entries.
+#[derive(Debug, Drop)]
+pub struct RawWork {
+    pub place: Place,
+    pub lines: (u32, Place),
+    pub self_count: (u32, Place),
+    pub entries: List<RawEntry>,
+}
+
+/// What has been read.
+fn raw_of(draft: WorkDraft<'_>) -> RawWork
+    ensures { result ≡ raw_of draft.entry }
+{
+    RawWork {
+        place: draft.place,
+        lines: draft.lines,
+        self_count: draft.self_count,
+        entries: draft.entries,
+    }
+}
+
+/// Reads the work that begins at the cursor, with the messages of the protocol, and moves the cursor past it. An answer
+/// `Text` is the first fault. After an error the cursor stays where it was.
+pub fn read_work(alloc: Global, cursor: &mut Cursor<'_>, p: &Protocol) -> Result<RawWork, TextError>
+    requires { IsCursor cursor.old.bytes.now cursor.old.tokens.now cursor.old.at }
+    ensures ok { IfOk result (ReadsWork p.now cursor.old.bytes.now cursor.old.tokens.now cursor.old.at cursor.new.at) }
+    ensures text { IfErr result (IsFirstFault grammar (state (nothing p.now) start) cursor.old.bytes.now cursor.old.tokens.now cursor.old.at) }
+    ensures same { cursor.new ≡ record cursor.old { at = cursor.new.at } }
+    ensures stays { OnErr result (cursor.new.at ≡ cursor.old.at) }
+{
+    let mut draft = nothing(alloc, p);
+    let mut stack = Stack::new(alloc);
+    if stack.put(start()).is_err() {
+        return Err(TextError::OutOfMemory);
+    }
+    match read(
+        &mut draft,
+        &mut stack,
+        cursor.bytes,
+        cursor.tokens,
+        cursor.at,
+    ) {
+        Ok(end) => {
+            cursor.at = end;
+            Ok(raw_of(draft))
+        }
+        Err(e) => Err(e),
+    }
+}
