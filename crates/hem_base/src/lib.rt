@@ -21,4 +21,4 @@ pub use name::Name;
 pub use outside::{Failed, Gate, OutOfMemory, Sink, Source};
 pub use setup::{Setup, SetupCause};
 pub use text::{Cause, Piece, Place, Token, TokenKind};
-pub use words::{Reserved, Sign, is_reserved, sign_bytes, word_bytes};
+pub use words::{Reserved, Sign, is_name, is_reserved, sign_bytes, word_bytes};

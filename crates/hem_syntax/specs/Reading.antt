@@ -1,5 +1,5 @@
 -- What the tokens of a written-out protocol say: how each is spelled, the limits, the rules on repetition, and the protocol.
-use Rattle.std.specs.Prelude.{ℕ, ◌-◌, ◌==◌, ◌&&◌, ◌||◌, Bool, true, false, not, List, [], ◌∷◌, ◌++◌, length, position, Option, Some, None, unwrap_or, option_map, nat_lt, nat_le, slice_get, slice_set, bit_or, codes, if◌then◌else◌}
+use Rattle.std.specs.Prelude.{ℕ, ◌==◌, ◌&&◌, ◌||◌, Bool, true, false, not, List, [], ◌∷◌, ◌++◌, length, Option, Some, None, unwrap_or, option_map, nat_lt, nat_le, bit_or, codes, if◌then◌else◌}
 use Rattle.std.specs.List.{list_any, list_all}
 use Rattle.std.specs.Str.{bytes_eq}
 use Rattle.hem_base.specs.declared.text.TokenKind.{TokenKind}
@@ -12,9 +12,9 @@ use Rattle.hem_base.specs.declared.ids.Status8.{Status8}
 use Rattle.hem_base.specs.declared.ids.StatusSet.{StatusSet}
 use Rattle.hem_base.specs.declared.ids.MsgId.{MsgId}
 use Rattle.hem_base.specs.declared.ids.RuleId.{RuleId}
-use Rattle.hem_base.specs.Machine.{Grammar, Lexeme}
+use Rattle.hem_base.specs.Machine.{Grammar}
 use Rattle.hem_base.specs.Sets.{has_bit}
-use Rattle.hem_base.specs.Words.{word_bytes, sign_bytes, is_reserved}
+use Rattle.hem_base.specs.Words.{word_bytes, sign_bytes, is_name}
 use Rattle.hem_syntax.specs.declared.rule.Class.{Class}
 use Rattle.hem_syntax.specs.declared.rule.Class.TheVariants as class
 use Rattle.hem_syntax.specs.declared.rule.Hold.{Hold}
@@ -49,6 +49,7 @@ use Rattle.hem_syntax.specs.declared.grammar.SendPart.TheVariants as send
 use Rattle.hem_syntax.specs.declared.grammar.Item.{Item}
 use Rattle.hem_syntax.specs.Protocol.{Text, KindPart, Protocol, empty_part}
 use Rattle.hem_syntax.specs.Grammar.{firsts, follows, stands}
+pub use Rattle.hem_syntax.specs.Names.{place_in, is_in, place_among, is_among, last_or, set_last, with_last}
 
 -- what has been read of a protocol: its name and declarations, the finished root and mid, the kind that is being read, and its rule that is being read
 pub record Read : Type 0 where
@@ -88,10 +89,6 @@ is_the_word w k text = is_word k && bytes_eq (word_bytes w) text
 abbrev pub is_the_sign : Sign → TokenKind → Text → Bool
 is_the_sign s k text = is_sign k && bytes_eq (sign_bytes s) text
 
--- a word that isn't reserved
-abbrev pub is_name : TokenKind → Text → Bool
-is_name k text = is_word k && not (is_reserved text)
-
 -- a number of value 0
 abbrev pub is_zero : TokenKind → Text → Bool
 is_zero k text = is_number k && list_all (λ b. b == 48) text
@@ -99,22 +96,6 @@ is_zero k text = is_number k && list_all (λ b. b == 48) text
 -- a name has 1 to 32 bytes
 abbrev pub is_short : Text → Bool
 is_short text = nat_le 1 (length text) && nat_le (length text) 32
-
--- the place of a name
-abbrev pub place_in : List Text → Text → Option ℕ
-place_in names text = position (λ n. bytes_eq n text) names
-
--- whether a name is declared
-abbrev pub is_in : List Text → Text → Bool
-is_in names text = list_any (λ n. bytes_eq n text) names
-
--- the place of a name that is declared with something
-abbrev pub place_among : {A : Type 0} → List (Text × A) → Text → Option ℕ
-place_among names text = position (λ n. bytes_eq n.0 text) names
-
--- whether a name is declared with something
-abbrev pub is_among : {A : Type 0} → List (Text × A) → Text → Bool
-is_among names text = list_any (λ n. bytes_eq n.0 text) names
 
 -- the status of that name
 abbrev pub status : Read → Text → Status8
@@ -131,14 +112,6 @@ field e text = unwrap_or (place_among e.fields text) 0
 -- the id of a rule's name: its place, or the next one where no rule has it yet
 abbrev pub rule_id : Read → Text → RuleId
 rule_id e text = record { 0 = unwrap_or (place_in e.rule_names text) (length e.rule_names) }
-
--- the last element, or the one given where there is none
-abbrev pub last_or : {A : Type 0} → A → List A → A
-last_or d xs = unwrap_or (slice_get xs (length xs - 1)) d
-
--- the list with another last element
-abbrev pub set_last : {A : Type 0} → List A → A → List A
-set_last xs x = slice_set xs (length xs - 1) x
 
 -- how a class is spelled
 abbrev pub class_word : Class → Reserved
@@ -486,11 +459,11 @@ send_with_value (sending.Others set id x) v = sending.Others set id v
 
 -- the messages, the last one with its class
 abbrev pub with_class : List (Text × Class) → Class → List (Text × Class)
-with_class messages c = set_last messages ((last_or ([], c) messages).0, c)
+with_class messages c = with_last messages c
 
 -- the fields, the last one with its initial status
 abbrev pub with_start : List (Text × Status8) → Status8 → List (Text × Status8)
-with_start fields s = set_last fields ((last_or ([], s) fields).0, s)
+with_start fields s = with_last fields s
 
 -- the guard with an atom more
 abbrev pub and_atom : Rule → Atom → Rule

@@ -1,3 +1,4 @@
+mod Grows
 pub mod Cut
 pub mod Order
 pub mod Within

@@ -9,8 +9,7 @@ use Rattle.hem_base.specs.declared.text.Token.{Token}
 use Rattle.hem_base.specs.declared.text.Place.{Place}
 use Rattle.hem_base.specs.declared.text.Piece.{Piece}
 use Rattle.hem_base.specs.declared.text.TokenKind.{TokenKind}
-use Rattle.hem_base.specs.declared.text.TokenKind.TheVariants.{Sign, Bad}
-use Rattle.hem_base.specs.Tokens.{tokens_from, tokens_of, start_place, piece_of, advance, is_space, begins_comment, is_not_line_feed, is_word_byte, is_pair, is_sign, between, token, run_at}
+use Rattle.hem_base.specs.Tokens.{tokens_from, tokens_of, start_place, piece_of, advance, is_space, begins_comment, is_not_line_feed, is_word_byte, is_pair, is_sign}
 use Rattle.hem_base.specs.Spans.{IsSpan}
 
 by_if : (P : Piece → Type 0) (c : Bool) (x y : Piece) → (c ≡ true → P x) → (c ≡ false → P y) → P (cond c x y)

@@ -1,3 +1,4 @@
+pub mod Numbers
 pub mod Refused
 pub mod Faults
 pub mod Cursors

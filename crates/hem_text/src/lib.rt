@@ -1,8 +1,9 @@
-//! The tokens of a text, and one reader for all grammars in which the next token decides.
+//! The tokens of a text, decimal numbers, and one reader for all grammars in which the next token decides.
 #![tactic(auto)]
 
 mod language;
 mod machine;
+mod numbers;
 mod piece;
 mod reader;
 mod stack;
@@ -10,6 +11,7 @@ mod token;
 
 pub use hem_base::{Cause, Place, Token, TokenKind};
 pub use language::Language;
+pub use numbers::{is_at_most, number, value_of};
 pub use piece::place_after;
 pub use reader::{TextError, TextFault, read};
 pub use stack::Stack;

@@ -4,12 +4,13 @@ ghost use Rattle.std.specs.Prelude.{◌≡◌, ◌+◌, ◌-◌, ◌<◌, ◌≤
 ghost use Rattle.hem_base.specs.Machine.{state, lexeme_of, Reads};
 ghost use Rattle.hem_text.specs.Faults.{IsFirstFault, ReadsOnly, refused_at};
 ghost use Rattle.hem_base.specs.Spans.{IsSpan};
+ghost use Rattle.hem_text.specs.declared.reader.TextError.TheVariants.{OutOfMemory as Memory};
 
 use crate::language::Language;
 use crate::machine::{Refusal, step};
 use crate::piece::place_after;
 use crate::stack::Stack;
-use hem_base::{Cause, Place, Token};
+use hem_base::{Cause, OutOfMemory, Place, Token};
 
 /// The first fault of a text.
 #[derive(Clone, Copy, Debug, PartialEq, Eq)]
@@ -23,6 +24,14 @@ pub struct TextFault {
 pub enum TextError {
     Text(TextFault),
     OutOfMemory,
+}
+
+impl From<OutOfMemory> for TextError {
+    ghost from_gives = { λ _ e. e ≡ Memory };
+
+    fn from(_e: OutOfMemory) -> TextError {
+        TextError::OutOfMemory
+    }
 }
 
 /// The answer to a token that wasn't read.
