@@ -1,0 +1,10 @@
+mod Claims
+mod Declaring
+mod Guarding
+mod Kept
+mod Lawful
+mod Lists
+mod Naming
+mod Ruling
+mod Setting
+mod Using

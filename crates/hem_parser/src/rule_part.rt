@@ -1,0 +1,149 @@
+//! Tokens of rules outside guards, sets and sends.
+
+ghost use Rattle.std.specs.Prelude.{◌≡◌, ◌==◌, IsTrue, OnOk};
+ghost use Rattle.std.specs.List.{list_any};
+ghost use Rattle.hem_syntax.specs.declared.grammar.RulePart.TheVariants.{NewRule};
+ghost use Rattle.hem_syntax.specs.Grammar.{rule_follows, rule_stands};
+ghost use Rattle.hem_syntax.specs.Reading.{rule_spells, rule_within, rule_fresh, rule_after};
+
+use crate::draft::{Draft, name_of};
+use crate::sets::take_with;
+use crate::words::{hold_word, is_short, is_the_word, origin_word, side_word};
+use hem_base::{MsgId, OutOfMemory, Reserved, Stands, Symbol, TokenKind, is_name};
+use hem_syntax::{Item, Origin, Rule, RulePart, Take, Terminal};
+
+/// How many rules a kind may have.
+const MOST_RULES: usize = 64;
+
+/// What must follow a token of a rule.
+pub fn rule_follows(token: RulePart) -> &'static [Symbol<Terminal, Item>]
+    ensures { result.now ≡ rule_follows token }
+{
+    match token {
+        RulePart::Rule => &[
+            Symbol::One(Terminal::Rule(RulePart::NewRule)),
+            Symbol::One(Terminal::Word(Reserved::Take)),
+            Symbol::Item(Item::Take),
+            Symbol::One(Terminal::Word(Reserved::Need)),
+            Symbol::One(Terminal::Word(Reserved::Up)),
+            Symbol::Item(Item::UpHold),
+            Symbol::One(Terminal::Word(Reserved::Down)),
+            Symbol::Item(Item::DownHold),
+            Symbol::Maybe(Item::When),
+            Symbol::Maybe(Item::Set),
+            Symbol::Maybe(Item::Free),
+            Symbol::Maybe(Item::Lock),
+            Symbol::Maybe(Item::Send),
+            Symbol::One(Terminal::Rule(RulePart::EndRule)),
+        ],
+        RulePart::TakeMe | RulePart::TakeParent | RulePart::TakeKids => &[Symbol::One(
+            Terminal::Rule(RulePart::TakeMessage),
+        )],
+        RulePart::Free => &[Symbol::Item(Item::FreeSide)],
+        RulePart::Lock => &[Symbol::Item(Item::LockSide), Symbol::Item(Item::LockOrigin)],
+        _ => &[],
+    }
+}
+
+/// Whether the token is a reserved word, a used name or something else.
+pub fn rule_stands(token: RulePart) -> Stands
+    ensures { result ≡ rule_stands token }
+{
+    match token {
+        RulePart::TakeMessage => Stands::Used,
+        RulePart::NewRule => Stands::Other,
+        _ => Stands::Reserved,
+    }
+}
+
+/// Whether a rule of that name is there.
+fn is_named(rules: &[Rule], name: usize) -> bool
+    ensures { result ≡ list_any (λ x. x.name.0 == name) rules.now }
+{
+    rules.iter().any(|rule| rule.name.0 as usize == name)
+}
+
+impl Draft {
+    pub(crate) fn rule_spells(&self, token: RulePart, kind: TokenKind, text: &[u8]) -> bool
+        ensures { result ≡ rule_spells self.now token kind text.now }
+    {
+        match token {
+            RulePart::Rule => is_the_word(Reserved::Rule, kind, text),
+            RulePart::NewRule => is_name(kind, text),
+            RulePart::TakeMe => is_the_word(Reserved::Me, kind, text),
+            RulePart::TakeParent => is_the_word(Reserved::Parent, kind, text),
+            RulePart::TakeKids => is_the_word(Reserved::Kids, kind, text),
+            RulePart::TakeNone => is_the_word(Reserved::None, kind, text),
+            RulePart::TakeMessage => self.is_message(kind, text),
+            RulePart::Up(hold) | RulePart::Down(hold) => is_the_word(hold_word(hold), kind, text),
+            RulePart::Free => is_the_word(Reserved::Free, kind, text),
+            RulePart::FreeSide(side) | RulePart::LockSide(side) => {
+                is_the_word(side_word(side), kind, text)
+            }
+            RulePart::Lock => is_the_word(Reserved::Lock, kind, text),
+            RulePart::LockOrigin(origin) => is_the_word(origin_word(origin), kind, text),
+            RulePart::EndRule => is_the_word(Reserved::End, kind, text),
+        }
+    }
+
+    pub(crate) fn rule_within(&self, token: RulePart, text: &[u8]) -> bool
+        ensures { result ≡ rule_within self.now token text.now }
+    {
+        match token {
+            RulePart::Rule => self.rules.len() < MOST_RULES,
+            RulePart::NewRule => is_short(text),
+            _ => true,
+        }
+    }
+
+    pub(crate) fn rule_fresh(&self, token: RulePart, text: &[u8]) -> bool
+        ensures { result ≡ rule_fresh self.now token text.now }
+    {
+        match token {
+            RulePart::NewRule => !is_named(self.rules.as_slice(), self.rule_place(text)),
+            _ => true,
+        }
+    }
+
+    /// Takes in the name of a rule.
+    fn read_name(&mut self, text: &[u8]) -> Result<(), OutOfMemory>
+        requires { IsTrue (rule_within self.old (NewRule) text.now) }
+        ensures { OnOk result (self.new ≡ rule_after self.old (NewRule) text.now) }
+    {
+        self.rule.name = self.rule_id(text)?;
+        if !self.rule_names.has(text) {
+            self.rule_names.push(name_of(text))?;
+        }
+        Ok(())
+    }
+
+    pub(crate) fn read_rule(&mut self, token: RulePart, text: &[u8]) -> Result<(), OutOfMemory>
+        requires { IsTrue (rule_within self.old token text.now) }
+        ensures { OnOk result (self.new ≡ rule_after self.old token text.now) }
+    {
+        match token {
+            RulePart::NewRule => self.read_name(text)?,
+            RulePart::TakeMe => self.rule.take = Take::Me(MsgId(0)),
+            RulePart::TakeParent => self.rule.take = Take::Parent(MsgId(0)),
+            RulePart::TakeKids => self.rule.take = Take::Kids(MsgId(0)),
+            RulePart::TakeNone => self.rule.take = Take::Nothing,
+            RulePart::TakeMessage => {
+                let id = self.message(text);
+                self.rule.take = take_with(self.rule.take, id);
+            }
+            RulePart::Up(hold) => self.rule.need.up = hold,
+            RulePart::Down(hold) => self.rule.need.down = hold,
+            RulePart::FreeSide(side) => self.rule.free = Some(side),
+            RulePart::LockSide(side) => self.rule.lock = Some((side, Origin::Own)),
+            RulePart::LockOrigin(origin) => {
+                self.rule.lock = self.rule.lock.map(|(side, _)| (side, origin));
+            }
+            RulePart::EndRule => {
+                let rule = self.take_rule();
+                self.rules.push(rule)?;
+            }
+            RulePart::Rule | RulePart::Free | RulePart::Lock => {}
+        }
+        Ok(())
+    }
+}
