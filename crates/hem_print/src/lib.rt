@@ -1,0 +1,13 @@
+//! Protocols as texts.
+#![tactic(auto)]
+
+mod guards;
+mod law;
+mod names;
+mod output;
+mod protocol;
+mod rules;
+mod sends;
+
+pub use law::reads_back;
+pub use protocol::protocol_text;
