@@ -1,5 +1,5 @@
 -- The objects of a tree, as far as they are made.
-use Rattle.std.proofs.Common.{◌≡◌, ℕ, zero, suc, ◌+◌, ◌<◌, ◌≤◌, Bool, true, false, cond, List, [], ◌∷◌, ◌++◌, length, get_or, refl, sym, ap, ◌∙◌, subst, arith, Option, None, Some, ⊎_elim, inl, inr, ◌⊎◌}
+use Rattle.std.proofs.Common.{◌≡◌, ℕ, zero, suc, ◌+◌, ◌<◌, ◌≤◌, Bool, true, false, List, [], ◌∷◌, ◌++◌, length, get_or, refl, sym, ap, ◌∙◌, subst, arith, Option, None, Some, ⊎_elim}
 use Rattle.std.specs.Prelude.{map, filter, count_by, slice_get}
 use Rattle.std.proofs.str.Laws.{order}
 use Rattle.std.proofs.lemmas.List.{map-append, length_push}
@@ -9,10 +9,10 @@ use Rattle.hem_base.specs.declared.ids.ObjectId.{ObjectId}
 use Rattle.hem_base.specs.declared.setup.SetupCause.{SetupCause}
 use Rattle.hem_tree.specs.declared.raw.RawNode.{RawNode}
 use Rattle.hem_tree.specs.declared.objects.Object.{Object}
-use Rattle.hem_tree.specs.Tree.{Tree, Node, IsLawful, below, is_number, is_child, parent_of, place_among, level_of, most_objects}
-use Rattle.hem_tree.specs.Raw.{IsRawTree, parent_in, tree_of, level_at}
+use Rattle.hem_tree.specs.Tree.{Tree, Node, IsLawful, below, is_number, is_child, parent_of, level_of, most_objects}
+use Rattle.hem_tree.specs.Raw.{IsRawTree, parent_in, tree_of}
 use Rattle.hem_tree.specs.Limits.{elders_of, limit_passed, passed_at, IsFirstPassed, IsTreeFault}
-use Rattle.hem_tree.specs.Objects.{number_of, number_at, elders_in, AreParents, node_of, described, IsObjectOf, IsDescribed, IsMade}
+use Rattle.hem_tree.specs.Objects.{number_of, number_at, elders_in, AreParents, node_of, described, IsObjectOf, IsMade}
 use Rattle.hem_tree.proofs.Lawful.{get_tree, one_if, count_more, count_same, get_within, length_tree, parent_at, parent_past, level_is, level_of_node}
 use Rattle.hem_tree.proofs.Refused.{within_at, elders_at, elders_none, lawful, unlawful}
 use Rattle.hem_tree.proofs.Reading.{get_push}

@@ -1,11 +1,11 @@
 -- In a lawful tree parents stand before their children.
-use Rattle.std.proofs.Common.{◌≡◌, ℕ, zero, suc, ◌+◌, ◌<◌, ◌≤◌, List, [], ◌∷◌, length, get_or, refl, sym, ap, ◌∙◌, subst, arith, Option, Some, None, ⊎_elim, inl, inr, ◌⊎◌}
-use Rattle.std.specs.Prelude.{Contains, slice_get, option_and_then}
+use Rattle.std.proofs.Common.{◌≡◌, ℕ, zero, suc, ◌+◌, ◌<◌, ◌≤◌, List, [], ◌∷◌, length, get_or, refl, sym, ap, ◌∙◌, subst, arith, Some, None, ⊎_elim, inl, inr, ◌⊎◌}
+use Rattle.std.specs.Prelude.{Contains}
 use Rattle.std.proofs.str.Laws.{order}
 use Rattle.hem_base.specs.declared.ids.ObjectId.{ObjectId}
 use Rattle.hem_tree.specs.declared.objects.Object.{Object}
 use Rattle.hem_tree.specs.Objects.{IsObjectOf}
-use Rattle.hem_tree.specs.Tree.{Tree, Node, parent_of, path_up, path_of, IsLawful}
+use Rattle.hem_tree.specs.Tree.{Tree, parent_of, path_up, IsLawful}
 use Rattle.hem_tree.proofs.Paths.{IsEarly, cases_of, path_none, path_some}
 
 -- the objects up to n have their parents before them

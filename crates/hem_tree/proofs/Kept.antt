@@ -1,6 +1,6 @@
 -- What each way of a grammar keeps, its runs keep.
-use Rattle.std.proofs.Common.{◌≡◌, Bool, true, false, cond, List, [], ◌∷◌, refl, subst, sym, Option, Some, None}
-use Rattle.std.specs.Prelude.{option_and_then, find}
+use Rattle.std.proofs.Common.{◌≡◌, Bool, true, false, cond, List, [], ◌∷◌, subst, Some, None}
+use Rattle.std.specs.Prelude.{find}
 use Rattle.std.proofs.lemmas.Option.{option_and_then_some}
 use Rattle.hem_base.specs.Machine.{Grammar, Lexeme, State, Way, Rules, allows, goes, next, run, ways, way_at, takes, state}
 

@@ -1,18 +1,18 @@
 -- The tree of nodes that are a tree of the grammar.
-use Rattle.std.proofs.Common.{◌≡◌, ◌≢◌, ℕ, zero, suc, ◌+◌, ◌<◌, ◌≤◌, Bool, true, false, cond, eqb, ltb, leb, List, [], ◌∷◌, ◌++◌, length, refl, sym, ap, ◌∙◌, subst, arith, Option, Some, None, ⊎_elim, inl, inr, ◌⊎◌}
-use Rattle.std.specs.Prelude.{Contains, ◌↔◌, slice_get, option_map, option_and_then, filter, count_by}
+use Rattle.std.proofs.Common.{◌≡◌, ℕ, zero, suc, ◌+◌, ◌<◌, ◌≤◌, Bool, true, false, cond, List, [], ◌∷◌, ◌++◌, length, refl, sym, ap, ◌∙◌, arith, Option, Some, None, ⊎_elim}
+use Rattle.std.specs.Prelude.{slice_get, option_map, filter, count_by}
 use Rattle.std.proofs.str.Laws.{order}
 use Rattle.std.proofs.lemmas.Bool.{eqb-true, eq-eqb}
-use Rattle.std.proofs.lemmas.Option.{slice_get_within, slice_get_past, slice_get-map}
+use Rattle.std.proofs.lemmas.Option.{slice_get_past}
 use Rattle.std.proofs.lemmas.List.{length_push}
 use Rattle.std.proofs.lemmas.List.Elements.{filter-append}
 use Rattle.std.proofs.lemmas.List.Sums.{sum_by_push, length-filter}
 use Rattle.hem_base.specs.declared.ids.Kind.{Kind}
 use Rattle.hem_base.specs.declared.ids.Kind.TheVariants.{Root, Mid, Leaf}
 use Rattle.hem_tree.specs.declared.raw.RawNode.{RawNode}
-use Rattle.hem_tree.specs.Tree.{Tree, Node, below, is_number, kind_of, parent_of, is_child, children_of, place_among, path_up, path_of, level_of}
+use Rattle.hem_tree.specs.Tree.{Node, below, is_number, kind_of, parent_of, path_up, level_of}
 use Rattle.hem_tree.specs.Raw.{IsRawTree, IsLevelAfter, last_below, level_at, parent_in, objects_from, tree_of}
-use Rattle.hem_tree.proofs.Nearest.{Levels, is_above, last_below_is, last_exists, last_cases, has_parent, deep_between, parent_is, next_parent}
+use Rattle.hem_tree.proofs.Nearest.{Levels, is_above, has_parent, parent_is}
 use Rattle.hem_tree.proofs.Paths.{IsEarly, cases_of, path_none, path_some}
 
 -- an element within the list

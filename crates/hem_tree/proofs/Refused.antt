@@ -1,6 +1,6 @@
 -- A tree of the grammar is lawful just where no object passes a limit.
-use Rattle.std.proofs.Common.{◌≡◌, ◌≢◌, ℕ, zero, suc, ◌+◌, ◌<◌, ◌≤◌, Bool, true, false, cond, leb, ltb, List, [], ◌∷◌, length, refl, sym, ap, ◌∙◌, subst, arith, Option, Some, None, ⊎_elim, inl, inr, ◌⊎◌}
-use Rattle.std.specs.Prelude.{Contains, ◌↔◌, slice_get, count_by, nat_le, nat_lt}
+use Rattle.std.proofs.Common.{◌≡◌, ◌≢◌, ℕ, zero, suc, ◌+◌, ◌<◌, ◌≤◌, Bool, true, false, cond, List, [], ◌∷◌, length, refl, sym, ap, ◌∙◌, subst, arith, Some, None, ⊎_elim}
+use Rattle.std.specs.Prelude.{Contains, ◌↔◌, slice_get, nat_le, nat_lt}
 use Rattle.std.proofs.str.Laws.{order}
 use Rattle.std.proofs.lemmas.Bool.{leb-false, ltb-false, lt-leb, le-ltb}
 use Rattle.std.proofs.lemmas.Option.{slice_get_within}
@@ -10,12 +10,12 @@ use Rattle.hem_base.specs.declared.ids.Kind.TheVariants.{Root, Mid, Leaf}
 use Rattle.hem_base.specs.declared.setup.SetupCause.{SetupCause}
 use Rattle.hem_base.specs.declared.setup.SetupCause.TheVariants as cause
 use Rattle.hem_tree.specs.declared.raw.RawNode.{RawNode}
-use Rattle.hem_tree.specs.Tree.{Tree, Node, below, kind_of, parent_of, is_child, children_of, place_among, path_up, path_of, level_of, most_objects, most_children, most_levels, IsLawful}
-use Rattle.hem_tree.specs.Raw.{IsRawTree, IsLevelAfter, level_at, tree_of, last_below}
+use Rattle.hem_tree.specs.Tree.{Tree, below, kind_of, parent_of, is_child, children_of, place_among, path_up, path_of, level_of, most_objects, most_children, most_levels, IsLawful}
+use Rattle.hem_tree.specs.Raw.{IsRawTree, IsLevelAfter, level_at, tree_of}
 use Rattle.hem_tree.specs.Limits.{elders_of, passed_at, IsFirstPassed}
-use Rattle.hem_tree.proofs.Nearest.{Levels, is_above, has_parent, deep_between, parent_is, next_parent}
+use Rattle.hem_tree.proofs.Nearest.{has_parent, deep_between, parent_is, next_parent}
 use Rattle.hem_tree.proofs.Paths.{cases_of, path_some}
-use Rattle.hem_tree.proofs.Lawful.{get_within, length_tree, get_tree, parent_inside, kind_past, level_is, kind_is, parent_at, count_bounded, count_later, filter_none, filter_some, is_number_true, number_is, levels_of, parent_by_level, by_level, early, level_of_node}
+use Rattle.hem_tree.proofs.Lawful.{get_within, length_tree, get_tree, parent_inside, kind_past, level_is, kind_is, count_bounded, count_later, filter_none, filter_some, is_number_true, number_is, levels_of, parent_by_level, by_level}
 
 some_alike : {X : Type 0} (a b : X) → Some a ≡ Some b → a ≡ b
 some_alike a b h = cc

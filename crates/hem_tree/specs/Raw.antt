@@ -1,10 +1,10 @@
 -- A tree as its text gives it: the nodes in preorder, each with its level, and the tree of objects that they are.
-use Rattle.std.specs.Prelude.{ℕ, zero, suc, ◌+◌, ◌<◌, ◌≤◌, ◌≡◌, ◌≢◌, ◌==◌, Bool, List, [], ◌∷◌, length, Option, None, Some, slice_get, if◌then◌else◌}
+use Rattle.std.specs.Prelude.{ℕ, zero, suc, ◌+◌, ◌≤◌, ◌≡◌, ◌≢◌, ◌==◌, Bool, List, [], ◌∷◌, length, Option, None, Some, slice_get, if◌then◌else◌}
 use Rattle.std.specs.Option.{option_map_or}
 use Rattle.hem_base.specs.declared.ids.Kind.{Kind}
-use Rattle.hem_base.specs.declared.ids.Kind.TheVariants.{Root, Mid, Leaf}
+use Rattle.hem_base.specs.declared.ids.Kind.TheVariants.{Root, Leaf}
 use Rattle.hem_tree.specs.declared.raw.RawNode.{RawNode}
-use Rattle.hem_tree.specs.Tree.{Tree, Node}
+use Rattle.hem_tree.specs.Tree.{Tree}
 
 -- the level of the node after this one: a leaf has nothing below it, and every other node has its first child next
 abbrev pub IsLevelAfter : Kind → ℕ → ℕ → Type 0

@@ -1,20 +1,19 @@
 -- The first fault, rule by rule.
-use Rattle.std.proofs.Common.{◌≡◌, ℕ, zero, suc, ◌+◌, ◌*◌, ◌<◌, ◌≤◌, Bool, true, false, eqb, leb, ltb, not, ◌&&◌, List, [], ◌∷◌, ◌++◌, length, get_or, drop, take, refl, sym, ap, ◌∙◌, subst, arith, Option, Some, None, ⊎_elim, inl, inr, ◌⊎◌}
-use Rattle.std.specs.Prelude.{map, slice_get, nat_le, sum_by, All}
+use Rattle.std.proofs.Common.{◌≡◌, ℕ, ◌+◌, ◌<◌, ◌≤◌, Bool, true, false, not, List, [], ◌∷◌, length, get_or, drop, take, refl, sym, ap, ◌∙◌, arith, Option, Some, None}
+use Rattle.std.specs.Prelude.{slice_get, nat_le, All}
 use Rattle.std.specs.Option.{option_or}
-use Rattle.std.proofs.lemmas.Bool.{leb-true, leb-false, le-leb, lt-leb}
+use Rattle.std.proofs.lemmas.Bool.{leb-false}
 use Rattle.std.proofs.lemmas.List.{drop_more, drop_all}
 use Rattle.std.proofs.lemmas.List.Elements.{All-nil, All-cons}
-use Rattle.std.proofs.lemmas.List.Sums.{sum_by-cons, sum_by_more}
-use Rattle.std.proofs.lemmas.Option.{slice_get_past, slice_get_within}
-use Rattle.hem_base.specs.declared.ids.Kind.{Kind}
+use Rattle.std.proofs.lemmas.List.Sums.{sum_by_more}
+use Rattle.std.proofs.lemmas.Option.{slice_get_within}
 use Rattle.hem_base.specs.declared.ids.Message.{Message}
 use Rattle.hem_base.specs.declared.text.Place.{Place}
 use Rattle.hem_base.specs.declared.setup.Setup.{Setup as Fault}
 use Rattle.hem_base.specs.declared.setup.SetupCause.{SetupCause}
 use Rattle.hem_base.specs.declared.setup.SetupCause.TheVariants.{Object, Line}
 use Rattle.hem_syntax.specs.Protocol.{Protocol}
-use Rattle.hem_tree.specs.Tree.{Tree, Node, kind_of}
+use Rattle.hem_tree.specs.Tree.{Tree, Node}
 use Rattle.hem_work.specs.declared.raw.RawEntry.{RawEntry}
 use Rattle.hem_work.specs.declared.raw.RawWork.{RawWork}
 use Rattle.hem_work.specs.Setup.{fault_if, is_leaf, request_count, request_fault, requests_fault, heading_fault, entry_fault, entries_fault, counts_fault, starts_fault, first_fault}

@@ -1,10 +1,10 @@
 -- A work without a fault fits its protocol and its tree.
-use Rattle.std.proofs.Common.{◌≡◌, ◌≢◌, ℕ, zero, suc, ◌+◌, ◌<◌, ◌≤◌, Bool, true, false, eqb, not, ◌&&◌, List, [], ◌∷◌, ◌++◌, length, get_or, refl, sym, ap, ◌∙◌, subst, arith, Option, Some, None, ⊎_elim, inl, inr, ◌⊎◌}
-use Rattle.std.specs.Prelude.{map, slice_index_or, nat_le, nat_lt, All}
+use Rattle.std.proofs.Common.{◌≡◌, ◌≢◌, ℕ, ◌+◌, ◌<◌, Bool, true, false, eqb, not, ◌&&◌, List, [], ◌∷◌, ◌++◌, length, get_or, refl, sym, ap, ◌∙◌, subst, arith, Option, Some, None, ⊎_elim, inl, inr, ◌⊎◌}
+use Rattle.std.specs.Prelude.{nat_le, nat_lt, All}
 use Rattle.std.specs.Option.{option_or, option_map_or}
 use Rattle.std.proofs.str.Laws.{order}
 use Rattle.std.proofs.lemmas.Bool.{eqb-true, leb-true, ltb-false}
-use Rattle.std.proofs.lemmas.List.{get_or_past, length-map}
+use Rattle.std.proofs.lemmas.List.{get_or_past}
 use Rattle.std.proofs.lemmas.List.Elements.{All-nil, All-cons, All-append, All-map, All-head, All-tail}
 use Rattle.hem_base.specs.declared.ids.Kind.{Kind}
 use Rattle.hem_base.specs.declared.ids.Kind.TheVariants.{Root, Mid, Leaf}
@@ -16,10 +16,10 @@ use Rattle.hem_syntax.specs.Protocol.{Protocol, class_of}
 use Rattle.hem_syntax.specs.Template.{has_class, is_ext_req}
 use Rattle.hem_syntax.specs.declared.rule.Class.{Class}
 use Rattle.hem_syntax.specs.declared.rule.Class.TheVariants.{ExtReq, ExtRsp, UpReq, UpRsp, DownReq, DownRsp}
-use Rattle.hem_tree.specs.Tree.{Tree, below, kind_of}
+use Rattle.hem_tree.specs.Tree.{Tree, kind_of}
 use Rattle.hem_work.specs.declared.raw.RawEntry.{RawEntry}
 use Rattle.hem_work.specs.declared.raw.RawWork.{RawWork}
-use Rattle.hem_work.specs.Work.{Work, requests_of}
+use Rattle.hem_work.specs.Work.{requests_of}
 use Rattle.hem_work.specs.Setup.{most_lines, most_self, most_requests, messages_if, messages_for, requests_in, row_of, table_of, work_of, fault_if, is_leaf_kind, is_leaf, request_fault, requests_fault, heading_fault, entry_fault, entries_fault, counts_fault, starts_fault, first_fault}
 use Rattle.hem_work.specs.Lawful.{IsExternal, IsLawfulWork}
 use Rattle.hem_work.proofs.Tables.{get_map_below, table_length, row_length_of}

@@ -1,4 +1,3 @@
-pub mod Grows
 pub mod Reading
 pub mod Tables
 pub mod FirstFault

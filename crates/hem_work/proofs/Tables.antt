@@ -1,10 +1,9 @@
 -- The requests of each line and object, entry by entry.
-use Rattle.std.proofs.Common.{◌≡◌, ◌≢◌, ℕ, zero, suc, ◌+◌, ◌<◌, ◌≤◌, Bool, true, false, eqb, ◌&&◌, List, [], ◌∷◌, ◌++◌, length, get_or, set, take, refl, sym, ap, ◌∙◌, subst, arith, ⊎_elim, inl, inr, ◌⊎◌, append-nil, append_assoc}
+use Rattle.std.proofs.Common.{◌≡◌, ◌≢◌, ℕ, zero, suc, ◌+◌, ◌<◌, Bool, true, false, eqb, ◌&&◌, List, [], ◌∷◌, ◌++◌, length, get_or, set, take, refl, sym, ap, ◌∙◌, arith, ⊎_elim, append-nil, append_assoc}
 use Rattle.std.specs.Prelude.{map, slice_get, None}
-use Rattle.std.specs.List.{flat_map}
 use Rattle.std.proofs.str.Laws.{order}
 use Rattle.std.proofs.lemmas.Bool.{eqb-true, eq-eqb}
-use Rattle.std.proofs.lemmas.List.{take_more, map-append, length-map, length_push, length-append, set-append_left, set_at, get_or_append_left, get_or_at}
+use Rattle.std.proofs.lemmas.List.{take_more, map-append, length-map, set-append_left, set_at, get_or_append_left, get_or_at}
 use Rattle.hem_base.specs.declared.ids.Message.{Message}
 use Rattle.hem_tree.specs.Tree.{below}
 use Rattle.hem_tree.proofs.Lawful.{length_below, below_more}

@@ -1,28 +1,24 @@
 -- The grammar of works:  WORK = work lines NUMBER self NUMBER {at NUMBER line NUMBER {MSG NUMBER}} end
-use Rattle.std.specs.Prelude.{ℕ, ◌-◌, ◌&&◌, Bool, true, false, not, List, [], ◌∷◌, ◌++◌, length, position, Option, Some, None, unwrap_or, nat_le, slice_get, slice_set}
-use Rattle.std.specs.List.{list_any}
-use Rattle.std.specs.Str.{bytes_eq}
+use Rattle.std.specs.Prelude.{ℕ, ◌-◌, ◌&&◌, Bool, true, List, [], ◌∷◌, ◌++◌, length, Option, Some, None, unwrap_or, nat_le, slice_get, slice_set}
 use Rattle.hem_base.specs.declared.ids.MsgId.{MsgId}
 use Rattle.hem_base.specs.declared.ids.Message.{Message}
 use Rattle.hem_base.specs.declared.text.Place.{Place}
-use Rattle.hem_base.specs.declared.text.TokenKind.{TokenKind}
-use Rattle.hem_base.specs.declared.text.TokenKind.TheVariants as kind
 use Rattle.hem_base.specs.declared.grammar.Symbol.{Symbol}
 use Rattle.hem_base.specs.declared.grammar.Symbol.TheVariants.{One, Many}
 use Rattle.hem_base.specs.declared.grammar.Stands.{Stands}
 use Rattle.hem_base.specs.declared.grammar.Stands.TheVariants as stand
-use Rattle.hem_base.specs.declared.words.Reserved.{Reserved}
 use Rattle.hem_base.specs.declared.words.Reserved.TheVariants as word
-use Rattle.hem_base.specs.Words.{word_bytes, is_reserved}
+use Rattle.hem_base.specs.Words.{is_name}
 use Rattle.hem_base.specs.Machine.{Grammar, Lexeme}
 use Rattle.hem_syntax.specs.Protocol.{Text, Protocol}
+use Rattle.hem_syntax.specs.Reading.{is_word, is_number, is_the_word, place_among, is_among}
 use Rattle.hem_syntax.specs.declared.rule.Class.{Class}
 use Rattle.hem_work.specs.declared.draft.Terminal.{Terminal}
 use Rattle.hem_work.specs.declared.draft.Terminal.TheVariants as the
 use Rattle.hem_work.specs.declared.draft.Item.{Item}
 use Rattle.hem_work.specs.declared.draft.Item.TheVariants as item
 use Rattle.hem_work.specs.declared.raw.RawEntry.{RawEntry}
-use Rattle.hem_work.specs.Numbers.{number_of}
+use Rattle.hem_text.specs.Numbers.{number_of}
 
 -- what has been read of a work, over the messages of a protocol; the last two are of the entry and of the request that are being read
 pub record Read : Type 0 where
@@ -55,33 +51,9 @@ stands the.Line = stand.Other
 stands the.Value = stand.Other
 stands _ = stand.Reserved
 
-abbrev pub is_word : TokenKind → Bool
-is_word kind.Word = true
-is_word _ = false
-
-abbrev pub is_number : TokenKind → Bool
-is_number kind.Number = true
-is_number _ = false
-
--- whether a token is that reserved word
-abbrev pub is_the_word : Reserved → TokenKind → Text → Bool
-is_the_word w k text = is_word k && bytes_eq (word_bytes w) text
-
--- a word that isn't reserved
-abbrev pub is_name : Lexeme → Bool
-is_name t = is_word t.kind && not (is_reserved t.text)
-
--- whether a message of that name is declared
-abbrev pub is_declared : List (Text × Class) → Text → Bool
-is_declared messages text = list_any (λ m. bytes_eq m.0 text) messages
-
--- the place of the message of that name
-abbrev pub place_of : List (Text × Class) → Text → Option ℕ
-place_of messages text = position (λ m. bytes_eq m.0 text) messages
-
 -- the id of the message of that name
 abbrev pub id_of : List (Text × Class) → Text → MsgId
-id_of messages text = record { 0 = unwrap_or (place_of messages text) 0 }
+id_of messages text = record { 0 = unwrap_or (place_among messages text) 0 }
 
 -- how a token is spelled
 abbrev pub spells : Read → Terminal → Lexeme → Bool
@@ -91,7 +63,7 @@ spells e the.SelfWord t = is_the_word word.Own t.kind t.text
 spells e the.At t = is_the_word word.At t.kind t.text
 spells e the.LineWord t = is_the_word word.Line t.kind t.text
 spells e the.End t = is_the_word word.End t.kind t.text
-spells e the.Msg t = is_word t.kind && is_declared e.messages t.text
+spells e the.Msg t = is_word t.kind && is_among e.messages t.text
 spells e _ t = is_number t.kind
 
 -- the limits on numbers: the value of a request has 64 bits, every other number 32
@@ -127,7 +99,7 @@ grammar =
       firsts = firsts;
       follows = follows;
       stands = stands;
-      is_name = is_name;
+      is_name = λ t. is_name t.kind t.text;
       spells = spells;
       is_within = is_within;
       is_fresh = λ e x t. true;

@@ -1,5 +1,5 @@
 -- What every work keeps.
-use Rattle.std.specs.Prelude.{ℕ, ◌<◌, ◌≤◌, ◌≡◌, ◌≢◌, List, [], length, slice_index_or, Some, All}
+use Rattle.std.specs.Prelude.{ℕ, ◌<◌, ◌≤◌, ◌≡◌, ◌≢◌, [], length, slice_index_or, Some, All}
 use Rattle.hem_base.specs.declared.ids.Message.{Message}
 use Rattle.hem_base.specs.declared.ids.Kind.TheVariants.{Leaf}
 use Rattle.hem_syntax.specs.Protocol.{Protocol, class_of}

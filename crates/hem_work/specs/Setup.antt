@@ -1,9 +1,9 @@
 -- The work that a text says over a tree, and the rules that it may break.
-use Rattle.std.specs.Prelude.{ℕ, ◌+◌, ◌*◌, ◌==◌, ◌≡◌, ◌&&◌, not, nat_le, nat_lt, Bool, true, false, List, [], ◌∷◌, ◌++◌, length, map, Option, None, Some, Result, Ok, Err, sum_by, if◌then◌else◌}
+use Rattle.std.specs.Prelude.{ℕ, ◌+◌, ◌*◌, ◌==◌, ◌≡◌, ◌&&◌, not, nat_le, nat_lt, Bool, true, false, List, [], ◌∷◌, length, map, Option, None, Some, Result, Ok, Err, sum_by}
 use Rattle.std.specs.List.{flat_map}
 use Rattle.std.specs.Option.{option_or, option_map_or}
 use Rattle.hem_base.specs.declared.ids.Kind.{Kind}
-use Rattle.hem_base.specs.declared.ids.Kind.TheVariants.{Root, Mid, Leaf}
+use Rattle.hem_base.specs.declared.ids.Kind.TheVariants.{Leaf}
 use Rattle.hem_base.specs.declared.ids.Message.{Message}
 use Rattle.hem_base.specs.declared.text.Place.{Place}
 use Rattle.hem_base.specs.declared.setup.Setup.{Setup as Fault}

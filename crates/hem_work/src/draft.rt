@@ -2,16 +2,17 @@
 
 ghost use Rattle.std.specs.Prelude.{◌≡◌, IfOk};
 ghost use Rattle.hem_base.specs.Machine.{lexeme};
-ghost use Rattle.hem_work.specs.Grammar.{start, firsts, follows, stands, is_word, is_number, is_the_word, is_name, is_declared, place_of, id_of, grammar, nothing};
+ghost use Rattle.hem_base.specs.Words.{is_name};
+ghost use Rattle.hem_syntax.specs.Reading.{is_word, is_number, is_the_word};
+ghost use Rattle.hem_work.specs.Grammar.{start, firsts, follows, stands, id_of, grammar, nothing};
 
-use crate::numbers::{is_at_most, value_of};
 use crate::raw::RawEntry;
 use hem_base::{
-    List, Message, MsgId, Name, OutOfMemory, Place, Reserved, Stands, Symbol, TokenKind,
-    is_reserved, word_bytes,
+    List, Message, MsgId, OutOfMemory, Place, Reserved, Stands, Symbol, TokenKind, is_name,
+    word_bytes,
 };
-use hem_syntax::{Class, Protocol};
-use hem_text::Language;
+use hem_syntax::{Class, Named, Protocol};
+use hem_text::{Language, is_at_most, value_of};
 use std::alloc::Global;
 use std::marker::Model;
 
@@ -43,7 +44,7 @@ pub enum Item {
 #[derive(Debug, Drop)]
 pub struct WorkDraft<'a> {
     pub(crate) alloc: Global,
-    pub(crate) messages: &'a [(Name, Class)],
+    pub(crate) messages: &'a Named<Class>,
     pub(crate) place: Place,
     pub(crate) lines: (u32, Place),
     pub(crate) self_count: (u32, Place),
@@ -90,7 +91,7 @@ pub fn nothing<'a>(alloc: Global, p: &'a Protocol) -> WorkDraft<'a>
     let nowhere = Place { line: 0, column: 0 };
     WorkDraft {
         alloc,
-        messages: p.messages.as_slice(),
+        messages: p.messages(),
         place: nowhere,
         lines: (0, nowhere),
         self_count: (0, nowhere),
@@ -124,23 +125,11 @@ fn is_the_word(word: Reserved, kind: TokenKind, text: &[u8]) -> bool
     is_word(kind) && word_bytes(word) == text
 }
 
-fn is_declared(messages: &[(Name, Class)], text: &[u8]) -> bool
-    ensures { result ≡ is_declared messages.now text.now }
-{
-    messages.iter().any(|m| m.0.as_bytes() == text)
-}
-
-fn place_of(messages: &[(Name, Class)], text: &[u8]) -> Option<usize>
-    ensures { result ≡ place_of messages.now text.now }
-{
-    messages.iter().position(|m| m.0.as_bytes() == text)
-}
-
-fn id_of(messages: &[(Name, Class)], text: &[u8]) -> Result<MsgId, OutOfMemory>
+/// The id of the message of that name.
+fn id_of(messages: &Named<Class>, text: &[u8]) -> Result<MsgId, OutOfMemory>
     ensures { IfOk result (λ id. id ≡ id_of messages.now text.now) }
 {
-    let place = place_of(messages, text).unwrap_or(0);
-    match u32::try_from(place) {
+    match u32::try_from(messages.place(text).unwrap_or(0)) {
         Ok(id) => Ok(MsgId(id)),
         // So many messages don't fit into memory.
         Err(_) => Err(OutOfMemory),
@@ -193,9 +182,9 @@ impl<'a> Language for WorkDraft<'a> {
     }
 
     fn is_name(kind: TokenKind, text: &[u8], place: Place) -> bool
-        ensures { result ≡ is_name (lexeme kind text.now place) }
+        ensures { result ≡ is_name kind text.now }
     {
-        is_word(kind) && !is_reserved(text)
+        is_name(kind, text)
     }
 
     fn spells(&self, terminal: Terminal, kind: TokenKind, text: &[u8], _place: Place) -> bool {
@@ -206,7 +195,7 @@ impl<'a> Language for WorkDraft<'a> {
             Terminal::At => is_the_word(Reserved::At, kind, text),
             Terminal::LineWord => is_the_word(Reserved::Line, kind, text),
             Terminal::End => is_the_word(Reserved::End, kind, text),
-            Terminal::Msg => is_word(kind) && is_declared(self.messages, text),
+            Terminal::Msg => is_word(kind) && self.messages.has(text),
             Terminal::LinesNumber
             | Terminal::SelfNumber
             | Terminal::Object

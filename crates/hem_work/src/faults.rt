@@ -34,8 +34,8 @@ fn is_ext_req(class: Class) -> bool
 fn is_external(p: &Protocol, id: MsgId) -> bool
     ensures { result ≡ has_class p.now id is_ext_req }
 {
-    match p.messages.get(id.0 as usize) {
-        Some(message) => is_ext_req(message.1),
+    match p.class(id) {
+        Some(class) => is_ext_req(class),
         None => false,
     }
 }

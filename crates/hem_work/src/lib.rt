@@ -4,16 +4,11 @@
 mod draft;
 mod faults;
 mod limits;
-mod numbers;
 mod raw;
 mod rows;
 mod work;
 
 pub use draft::{Item, Terminal, WorkDraft};
 pub use limits::{MOST_LINES, MOST_REQUESTS, MOST_SELF, MOST_STARTS};
-pub use numbers::{is_at_most, number, value_of};
 pub use raw::{RawEntry, RawWork, read_work};
 pub use work::Work;
-
-#[cfg(test)]
-mod tests;

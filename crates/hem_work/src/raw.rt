@@ -55,9 +55,7 @@ pub fn read_work(alloc: Global, cursor: &mut Cursor<'_>, p: &Protocol) -> Result
 {
     let mut draft = nothing(alloc, p);
     let mut stack = Stack::new(alloc);
-    if stack.put(start()).is_err() {
-        return Err(TextError::OutOfMemory);
-    }
+    stack.put(start())?;
     match read(
         &mut draft,
         &mut stack,

@@ -1,5 +1,5 @@
-use Rattle.std.proofs.Common.{◌≡◌, true, false, sym, ◌∙◌, append-nil, ◌++◌}
-use Rattle.hem_tree.proofs.Building.{children_step, child_if}
+use Rattle.std.proofs.Common.{true, false, sym, ◌∙◌, append-nil}
+use Rattle.hem_tree.proofs.Building.{children_step}
 use Rattle.hem_tree.proofs.objects.children_of.Goals as goal
 use Rattle.hem_tree.proofs.objects.children_of.Goals.{then-is_parent+in_ok-push, else-is_parent}
 

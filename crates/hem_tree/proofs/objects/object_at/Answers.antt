@@ -1,4 +1,4 @@
-use Rattle.std.proofs.Common.{◌≡◌, ◌<◌, None, length, arith}
+use Rattle.std.proofs.Common.{None, arith}
 use Rattle.std.proofs.lemmas.Option.{slice_get-get_or}
 use Rattle.hem_base.specs.declared.ids.Kind.TheVariants.{Root}
 use Rattle.hem_tree.specs.declared.raw.RawNode.{RawNode}

@@ -1,4 +1,3 @@
-use Rattle.std.proofs.Common.{◌≡◌, rules}
 use Rattle.hem_tree.specs.Raw.{tree_of}
 use Rattle.hem_tree.proofs.Building.{no_objects, objects_more, all_made}
 use Rattle.hem_tree.proofs.objects.objects_of.Goals as goal

@@ -1,4 +1,4 @@
-use Rattle.std.proofs.Common.{◌≡◌, sym, ◌∙◌, rules}
+use Rattle.std.proofs.Common.{sym, ◌∙◌}
 use Rattle.std.proofs.lemmas.Option.{slice_get-get_or}
 use Rattle.hem_base.specs.declared.ids.Kind.TheVariants.{Root}
 use Rattle.hem_tree.specs.declared.raw.RawNode.{RawNode}

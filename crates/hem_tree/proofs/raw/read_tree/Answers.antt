@@ -1,5 +1,4 @@
-use Rattle.std.proofs.Common.{◌≡◌, rules}
-use Rattle.hem_tree.specs.Grammar.{start}
+use Rattle.std.proofs.Common.{rules}
 use Rattle.hem_text.proofs.Within.{spans_of}
 use Rattle.hem_tree.proofs.Reading.{reads_tree}
 use Rattle.hem_tree.proofs.raw.read_tree.Goals as goal

@@ -1,4 +1,4 @@
-use Rattle.std.proofs.Common.{◌≡◌, rules}
+use Rattle.std.proofs.Common.{rules}
 use Rattle.hem_text.proofs.Within.{spans_of}
 use Rattle.hem_work.proofs.Reading.{reads_work}
 use Rattle.hem_work.proofs.raw.read_work.Goals as goal

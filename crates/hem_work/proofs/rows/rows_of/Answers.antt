@@ -1,4 +1,4 @@
-use Rattle.std.proofs.Common.{◌≡◌, ◌<◌, length, get_or, [], subst, sym, ap, ◌∙◌, arith, take}
+use Rattle.std.proofs.Common.{length, get_or, [], subst, sym, ap, arith, take}
 use Rattle.hem_work.specs.Entries.{IsPlaced}
 use Rattle.hem_work.proofs.Tables.{table_length, row_length, rows_more}
 use Rattle.hem_work.proofs.rows.rows_of.Goals as goal

@@ -1,7 +1,7 @@
-use Rattle.std.proofs.Common.{◌≡◌, ◌<◌, refl, arith, ⊎_elim, ap, rules, sym, ◌∙◌}
+use Rattle.std.proofs.Common.{refl, arith, ⊎_elim, sym, ◌∙◌}
 use Rattle.std.proofs.lemmas.Bool.{eqb-true, eq-eqb}
 use Rattle.hem_tree.proofs.Early.{lawful_early, parent_kept}
-use Rattle.hem_tree.proofs.Paths.{IsEarly, under_parent, under_more, under_less}
+use Rattle.hem_tree.proofs.Paths.{under_parent, under_more, under_less}
 use Rattle.hem_tree.proofs.tree.Tree.is_under.Goals as goal
 
 pub returns-then-eq : goal.returns-then-eq

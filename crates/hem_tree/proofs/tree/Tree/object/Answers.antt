@@ -1,4 +1,4 @@
-use Rattle.std.proofs.Common.{◌≡◌, ◌<◌, subst, length, arith, ap, refl}
+use Rattle.std.proofs.Common.{◌≡◌, subst, length, arith, ap, refl}
 use Rattle.std.proofs.lemmas.List.{length-map}
 use Rattle.std.proofs.lemmas.Option.{slice_get_read}
 use Rattle.hem_tree.specs.Objects.{IsObjectOf, node_of}

@@ -1,4 +1,4 @@
-use Rattle.std.proofs.Common.{◌≡◌, length, subst, sym, ap, ◌∙◌}
+use Rattle.std.proofs.Common.{subst, sym, ap, ◌∙◌}
 use Rattle.hem_work.specs.Setup.{table_of}
 use Rattle.hem_work.specs.Lawful.{IsLawfulWork}
 use Rattle.hem_work.proofs.FirstFault.{all_placed}
