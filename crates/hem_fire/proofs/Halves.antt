@@ -10,7 +10,7 @@ use Rattle.hem_syntax.specs.Protocol.{Protocol}
 use Rattle.hem_syntax.specs.Local.{Local}
 use Rattle.hem_syntax.specs.Guard.{holds}
 use Rattle.hem_fire.specs.View.{view_of}
-use Rattle.hem_fire.specs.Changes.{assign_names}
+use Rattle.hem_object.specs.Changes.{assign_names}
 use Rattle.hem_fire.specs.Locks.{lock_names, request_in_hand}
 use Rattle.hem_fire.specs.Sends.{send_names}
 use Rattle.hem_fire.specs.OneFire.{Heads, can_begin, can_fire}

@@ -14,9 +14,10 @@ use Rattle.hem_syntax.specs.Guard.{holds}
 use Rattle.hem_fire.specs.Heads.{takes_there}
 pub use Rattle.hem_fire.specs.Heads.{Heads}
 use Rattle.hem_fire.specs.View.{view_of}
-use Rattle.hem_fire.specs.Sends.{targets_of, message_of, no_message, send_names, goes_to}
+use Rattle.hem_object.specs.Targets.{targets_of}
+use Rattle.hem_fire.specs.Sends.{message_of, no_message, send_names, goes_to}
 use Rattle.hem_fire.specs.Locks.{need_holds, request_in_hand, lock_names, lock_taken}
-use Rattle.hem_fire.specs.Changes.{assign_names, assigned, freed, locked}
+use Rattle.hem_object.specs.Changes.{assign_names, assigned, freed, locked}
 
 -- the child fits the rule: it is named exactly where the rule takes from a child
 abbrev pub me_fits : Kind → Take → Option ℕ → ℕ → Bool

@@ -1,8 +1,5 @@
 -- What a firing sends, and to whom.
-use Rattle.std.specs.Prelude.{ℕ, ◌==◌, Bool, true, false, not, ◌&&◌, length, Option, None, Some, slice_get, option_map, is_some}
-use Rattle.hem_base.specs.Sets.{bits_where}
-use Rattle.hem_base.specs.declared.ids.KidSet.{KidSet}
-use Rattle.hem_base.specs.declared.ids.StatusSet.{StatusSet}
+use Rattle.std.specs.Prelude.{◌==◌, Bool, true, false, not, ◌&&◌, Option, None, Some, option_map, is_some}
 use Rattle.hem_base.specs.declared.ids.Message.{Message}
 use Rattle.hem_base.specs.declared.ids.Kind.{Kind}
 use Rattle.hem_base.specs.declared.ids.Kind.TheVariants.{Root}
@@ -15,19 +12,9 @@ use Rattle.hem_syntax.specs.declared.state.By.TheVariants.{Processor, Kid}
 use Rattle.hem_fire.specs.declared.outs.To.{To}
 use Rattle.hem_fire.specs.declared.outs.To.TheVariants as to
 use Rattle.hem_syntax.specs.Protocol.{Protocol, class_of}
-use Rattle.hem_syntax.specs.Local.{Local, nobody}
-use Rattle.hem_syntax.specs.Guard.{value_of, is_in, is_requester, has_requester}
-
--- whether the directory has the child at that place in the set
-abbrev pub kid_is_in : Local → StatusSet → ℕ → Bool
-kid_is_in local set k = is_in set (slice_get local.dir k)
-
--- the children that a firing sends to
-abbrev pub targets_of : SendTo → Local → View → KidSet
-targets_of (send.Kids set id v) local view = record { 0 = bits_where (kid_is_in local set) (length local.dir) }
-targets_of (send.Others set id v) local view =
-    record { 0 = bits_where (λ k. kid_is_in local set k && not (is_requester view k)) (length local.dir) }
-targets_of _ local view = nobody
+use Rattle.hem_syntax.specs.Local.{Local}
+use Rattle.hem_syntax.specs.Guard.{value_of, has_requester}
+use Rattle.hem_object.specs.Targets.{targets_of}
 
 -- the message that the rule sends, where its value exists
 abbrev pub message_of : SendTo → Local → View → Option Message

@@ -5,20 +5,20 @@ ghost use Rattle.hem_base.specs.declared.ids.Kind.{Kind};
 ghost use Rattle.hem_fire.specs.OneFire.{Heads, can_fire, outs_of, OneFire};
 ghost use Rattle.std.specs.Option.{option_map_or};
 ghost use Rattle.hem_syntax.specs.Local.{Local};
-ghost use Rattle.hem_fire.specs.Changes.{freed, locked};
+ghost use Rattle.hem_object.specs.Changes.{freed, locked};
 ghost use Rattle.hem_fire.specs.View.{view_of};
 
 use crate::heads::Heads;
-use crate::local::Local;
 use crate::locks::{lock_taken, request_in_hand};
 use crate::outs::Outs;
 use crate::sends::{goes_to, message_of};
 use crate::view::view_of;
 use hem_base::{Kind, Message, MsgId};
+use hem_object::Local;
 use hem_syntax::{Lock, Protocol, Rule, Side, Take, View};
 
-/// What the firing takes and sends.
-fn outs_of(p: &Protocol, rule: &Rule, local: &Local, view: &View) -> Outs
+/// What the firing takes and sends, in this view.
+fn outs_in(p: &Protocol, rule: &Rule, local: &Local, view: &View) -> Outs
     ensures { (kind : Kind) (me : Option ℕ) (heads : Heads) → view.now ≡ view_of rule.now.take me local.now heads → result ≡ outs_of p.now kind rule.now me local.now heads }
 {
     Outs {
@@ -33,23 +33,29 @@ fn outs_of(p: &Protocol, rule: &Rule, local: &Local, view: &View) -> Outs
     }
 }
 
-impl Local {
-    /// Frees the lock that a rule names, if it names one.
-    fn free_named(&mut self, side: Option<Side>)
-        ensures { self.new ≡ freed side self.old }
-    {
-        if let Some(side) = side {
-            self.free(side);
-        }
-    }
+/// What a firing of the rule at an object takes and sends. Where the rule can't fire, nothing is meant by it.
+pub fn outs_of(p: &Protocol, rule: &Rule, me: Option<u8>, local: &Local, heads: &Heads) -> Outs
+    ensures { (kind : Kind) → result ≡ outs_of p.now kind rule.now me local.now heads.now }
+{
+    let view = view_of(rule.take, me, local, heads);
+    outs_in(p, rule, local, &view)
+}
 
-    /// Takes the lock that a firing takes, if it takes one.
-    fn lock_named(&mut self, lock: Option<(Side, Lock)>)
-        ensures { self.new ≡ option_map_or (λ l. locked l.0 l.1 self.old) lock self.old }
-    {
-        if let Some((side, lock)) = lock {
-            self.lock(side, lock);
-        }
+/// Frees the lock that a rule names, if it names one.
+fn free_named(local: &mut Local, side: Option<Side>)
+    ensures { local.new ≡ freed side local.old }
+{
+    if let Some(side) = side {
+        local.free(side);
+    }
+}
+
+/// Takes the lock that a firing takes, if it takes one.
+fn lock_named(local: &mut Local, lock: Option<(Side, Lock)>)
+    ensures { local.new ≡ option_map_or (λ l. locked l.0 l.1 local.old) lock local.old }
+{
+    if let Some((side, lock)) = lock {
+        local.lock(side, lock);
     }
 }
 
@@ -67,11 +73,11 @@ pub fn fire(
     ensures { OneFire p.now kind rule.now me local.old heads.now local.new result }
 {
     let view = view_of(rule.take, me, local, heads);
-    let outs = outs_of(p, rule, local, &view);
+    let outs = outs_in(p, rule, local, &view);
     let request = request_in_hand(p, rule.take, rule.send, local, &view, heads);
     let lock = lock_taken(rule.lock, &view, request, local.targets(&rule.send, &view));
     local.assign(rule.sets.as_slice(), &view);
-    local.free_named(rule.free);
-    local.lock_named(lock);
+    free_named(local, rule.free);
+    lock_named(local, lock);
     outs
 }

@@ -6,10 +6,9 @@ ghost use Rattle.hem_base.specs.Sets.{has_bit};
 ghost use Rattle.hem_fire.specs.Heads.{has_id, awaited_of, heads_at, takes_there};
 ghost use Rattle.hem_fire.specs.View.{value_in};
 
-use crate::kids::has_kid;
-use crate::local::Local;
 use arrayvec::ArrayVec;
 use hem_base::{KidSet, Message, MsgId};
+use hem_object::Local;
 use hem_syntax::Take;
 use std::marker::Model;
 
@@ -67,7 +66,7 @@ impl Heads {
         self.kids
             .iter()
             .enumerate()
-            .any(|(place, _)| has_kid(awaited, place))
+            .any(|(place, _)| awaited.has(place))
     }
 
     /// Whether the response of each awaited child is there and has the id.
@@ -77,7 +76,7 @@ impl Heads {
         self.kids
             .iter()
             .enumerate()
-            .filter(|(place, _)| has_kid(awaited, *place))
+            .filter(|(place, _)| awaited.has(*place))
             .all(|(_, head)| has_id(*head, id))
     }
 
@@ -86,7 +85,7 @@ impl Heads {
         ensures { result ≡ option_and_then (λ k. value_in k.1) (slice_get (heads_at awaited self.now) 0) }
     {
         for (place, head) in self.kids.iter().enumerate() {
-            if has_kid(awaited, place) {
+            if awaited.has(place) {
                 return value_in(*head);
             }
         }

@@ -4,10 +4,10 @@ ghost use Rattle.std.specs.Prelude.{◌≡◌};
 ghost use Rattle.hem_fire.specs.Locks.{need_holds, if_request, request_in_hand, lock_by, lock_names, awaited_by, lock_taken};
 
 use crate::heads::Heads;
-use crate::local::Local;
 use crate::lookup::is_request_id;
 use crate::sends::message_of;
 use hem_base::{KidSet, Message};
+use hem_object::Local;
 use hem_syntax::{By, Hold, Lock, Origin, Protocol, SendTo, Side, Take, View};
 
 /// Whether a lock is as the rule needs it.

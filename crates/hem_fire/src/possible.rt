@@ -3,18 +3,18 @@
 ghost use Rattle.std.specs.Prelude.{◌≡◌, ◌&&◌};
 ghost use Rattle.std.specs.List.{list_all};
 ghost use Rattle.hem_syntax.specs.Guard.{holds};
-ghost use Rattle.hem_fire.specs.Changes.{assign_names};
+ghost use Rattle.hem_object.specs.Changes.{assign_names};
 ghost use Rattle.hem_fire.specs.Locks.{lock_names};
 ghost use Rattle.hem_fire.specs.Sends.{send_names};
 ghost use Rattle.hem_fire.specs.OneFire.{me_fits, can_begin, can_fire};
 
 use crate::heads::Heads;
-use crate::local::Local;
 use crate::locks::{lock_names, need_holds, request_in_hand};
 use crate::sends::send_names;
 use crate::view::view_of;
 use hem_base::{Kind, Message};
-use hem_syntax::{Assign, Protocol, Rule, Take, View};
+use hem_object::Local;
+use hem_syntax::{Protocol, Rule, Take, View};
 
 /// Whether the child fits the rule: it is named exactly where the rule takes from a child.
 fn me_fits(kind: Kind, take: Take, me: Option<u8>, children: usize) -> bool
@@ -24,27 +24,6 @@ fn me_fits(kind: Kind, take: Take, me: Option<u8>, children: usize) -> bool
         (Kind::Root | Kind::Mid, Take::Me(_), Some(kid)) => usize::from(kid) < children,
         (Kind::Root | Kind::Mid, Take::Me(_), None) => false,
         _ => me.is_none(),
-    }
-}
-
-impl Local {
-    /// Whether everything that a set names exists.
-    fn names_exist(&self, set: Assign, view: &View) -> bool
-        ensures { result ≡ assign_names self.now view.now set }
-    {
-        match set {
-            Assign::Field(field, _) => usize::from(field) < self.fields.len(),
-            Assign::Val(value) => self.value(value, view).is_some(),
-            Assign::Me(_) => self.requester_is_kid(view),
-            Assign::Targets(_) => view.awaited.0 != 0,
-        }
-    }
-
-    /// Whether everything that the sets name exists.
-    pub(crate) fn all_names_exist(&self, sets: &[Assign], view: &View) -> bool
-        ensures { result ≡ list_all (assign_names self.now view.now) sets.now }
-    {
-        sets.iter().all(|set| self.names_exist(*set, view))
     }
 }
 

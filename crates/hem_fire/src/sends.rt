@@ -2,12 +2,11 @@
 
 ghost use Rattle.std.specs.Prelude.{◌≡◌, ◌&&◌, ◌==◌, not, is_some, option_map};
 ghost use Rattle.hem_syntax.specs.Guard.{value_of};
-ghost use Rattle.hem_fire.specs.Sends.{message_of, has_parent, send_names, to_requester, goes_to, targets_of};
+ghost use Rattle.hem_fire.specs.Sends.{message_of, has_parent, send_names, to_requester, goes_to};
 
-use crate::local::Local;
-use crate::lookup::class_of;
 use crate::outs::To;
 use hem_base::{Kind, Message, MsgId};
+use hem_object::Local;
 use hem_syntax::{By, Class, Protocol, SendTo, View};
 
 /// The message with this id, where its value exists.
@@ -74,7 +73,7 @@ pub(crate) fn goes_to(p: &Protocol, send: SendTo, local: &Local, view: &View) ->
     match send {
         SendTo::Nothing => To::Nobody,
         SendTo::Me(_, _) => to_requester(view.me),
-        SendTo::Parent(id, _) => match class_of(p, id) {
+        SendTo::Parent(id, _) => match p.class(id) {
             Some(Class::UpRsp) => To::UpResponse,
             _ => To::UpRequest,
         },

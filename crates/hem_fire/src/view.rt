@@ -6,8 +6,8 @@ ghost use Rattle.hem_fire.specs.View.{request_of, asker, kid_asker, requester, v
 ghost use Rattle.hem_syntax.specs.declared.rule.Take.TheVariants as taking;
 
 use crate::heads::{Heads, awaited_of, value_in};
-use crate::local::Local;
 use hem_base::{KidSet, Message};
+use hem_object::Local;
 use hem_syntax::{By, Lock, Take, View};
 
 /// The request that a lock keeps, where it is held.

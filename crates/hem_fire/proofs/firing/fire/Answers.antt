@@ -11,5 +11,5 @@ pub returns : goal.returns
 returns c = record {
   possible = c.requires;
   leaves = rw (c.lock_named.ensures, c.free_named.ensures, c.assign.ensures, c.lock_taken-lock.ensures, c.request_in_hand-request.ensures, c.targets.ensures, c.view_of-view.ensures, c.as_slice.ensures) refl;
-  gives = c.outs_of-outs.ensures c.args.kind c.args.me c.args.heads.now c.view_of-view.ensures;
+  gives = c.outs_in-outs.ensures c.args.kind c.args.me c.args.heads.now c.view_of-view.ensures;
 }

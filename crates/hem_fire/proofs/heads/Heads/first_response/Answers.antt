@@ -11,5 +11,5 @@ loop-place-preserved c =
     let place = c.loop-place.place in
     let same : c.deref-head-items.result.now ≡ kids = rw (← c.self.view_is) c.deref-head-items.ensures.0 in
     let within : place < length kids = rw same at c.loop-place-test.true in
-    let off : has_bit c.args.awaited.0 place ≡ false = sym c.has_kid.ensures ∙ c.if-has_kid.false in
+    let off : has_bit c.args.awaited.0 place ≡ false = sym c.has.ensures ∙ c.if-has.false in
     sym (first_from-past c.args.awaited place (get_or kids place None) (drop (place + 1) kids) off) ∙ (rw (drop_more kids place None within) at c.loop-place.invariant)

@@ -1,7 +1,0 @@
-use Rattle.std.proofs.Common.{◌≡◌, drop}
-use Rattle.hem_fire.specs.Changes.{assign_me, in_turn}
-use Rattle.hem_fire.proofs.local.Local.assign_me.Given as goal
-
--- the sets that are left lead on to what all sets lead to
-abbrev pub invariant-loop-set : goal.invariant-loop-set
-invariant-loop-set l = in_turn (assign_me l.view) (drop l.set-index l.sets) l.self ≡ in_turn (assign_me l.view) l.sets l.fn.self

@@ -1,9 +1,0 @@
-use Rattle.std.proofs.Common.{◌≡◌, ◌&&◌, not}
-use Rattle.hem_base.specs.Sets.{bits_where}
-use Rattle.hem_syntax.specs.Guard.{is_requester}
-use Rattle.hem_fire.specs.Sends.{kid_is_in}
-use Rattle.hem_fire.proofs.local.Local.others_in.Given as goal
-
--- the children so far that are in the set, but for the requester
-abbrev pub invariant-loop-place : goal.invariant-loop-place
-invariant-loop-place l = l.kids ≡ bits_where (λ k. kid_is_in l.self l.set k && not (is_requester l.view k)) l.place

@@ -1,0 +1,4 @@
+pub mod Assigns
+pub mod Targets
+pub mod Entries
+pub mod Fields
