@@ -1,0 +1,16 @@
+pub mod Sets
+pub mod Queues
+pub mod Quiets
+pub mod Takers
+pub mod Kids
+pub mod OwnPlace
+pub mod Meeting
+pub mod Changed
+pub mod Rooms
+pub mod Effects
+pub mod Made
+pub mod Stepped
+pub mod Runs
+pub mod Starts
+pub mod TakenHeads
+pub mod Own

@@ -1,0 +1,12 @@
+use Rattle.std.proofs.Common.{◌∙◌, ap, drop, arith}
+use Rattle.hem_system.specs.Queues.{Queue}
+use Rattle.hem_system.proofs.Queues.{taken_one, taken_all}
+use Rattle.hem_system.proofs.queue.Queue.take.Goals as goal
+
+pub returns-then-len-self-gt1-clause-left : goal.returns-then-len-self-gt1-clause-left
+returns-then-len-self-gt1-clause-left c =
+    taken_one c.self.inside.taken c.self.inside.items.items ∙ ap (λ (q : Queue). drop 1 q.messages) c.self.view_is
+
+pub returns-else-len-self-gt1-clause-left : goal.returns-else-len-self-gt1-clause-left
+returns-else-len-self-gt1-clause-left c =
+    c.clear.ensures.items ∙ taken_all c.self.inside.taken c.self.inside.items.items (omega arith) ∙ ap (λ (q : Queue). drop 1 q.messages) c.self.view_is

@@ -1,0 +1,11 @@
+pub mod State
+pub mod Queues
+pub mod Cells
+pub mod Lists
+pub mod Found
+pub mod Steps
+pub mod Replays
+pub mod Faults
+pub mod Quiet
+pub mod Ended
+pub mod Laws
