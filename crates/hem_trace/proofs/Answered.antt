@@ -5,7 +5,7 @@ use Rattle.std.specs.Prelude.{map}
 use Rattle.hem_base.specs.declared.ids.Firing.{Firing}
 use Rattle.hem_base.specs.declared.text.Token.{Token}
 use Rattle.hem_base.specs.declared.grammar.Symbol.{Symbol}
-use Rattle.hem_base.specs.Machine.{state, State, Reads, lexeme_of}
+use Rattle.hem_base.specs.Machine.{state, Reads, lexeme_of}
 use Rattle.hem_text.specs.Faults.{ReadsOnly}
 use Rattle.hem_syntax.specs.Protocol.{Protocol}
 use Rattle.hem_trace.specs.declared.draft.Terminal.{Terminal}

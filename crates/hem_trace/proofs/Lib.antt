@@ -1,3 +1,3 @@
-mod Grows
-mod Noting
 mod Answered
+pub mod OneStepEvents
+pub mod OneStepOrder

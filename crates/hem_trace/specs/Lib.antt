@@ -1,4 +1,8 @@
-pub mod Numbers
-pub mod Rules
 pub mod Grammar
 pub mod Reading
+pub mod History
+pub mod Tags
+pub mod Blocks
+pub mod Order
+pub mod Singles
+pub mod OneStep

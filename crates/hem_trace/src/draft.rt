@@ -1,19 +1,18 @@
 //! The grammar of histories.
 
-ghost use Rattle.std.specs.Prelude.{◌≡◌, ◌-◌, length, slice_get, IfOk};
+ghost use Rattle.std.specs.Prelude.{◌≡◌, ◌-◌, length, slice_get, unwrap_or, IfOk};
 ghost use Rattle.hem_base.specs.Machine.{lexeme};
-ghost use Rattle.hem_syntax.specs.Reading.{is_word, is_number, is_the_word, is_name};
+ghost use Rattle.hem_base.specs.Words.{is_name};
+ghost use Rattle.hem_syntax.specs.Reading.{is_word, is_number, is_the_word, place_in};
 ghost use Rattle.hem_trace.specs.Grammar.{start, firsts, follows, stands, with_child, grammar, nothing};
 
 use crate::limits::{MOST_FIRINGS, MOST_NUMBER};
-use crate::numbers::{is_at_most, value_of};
-use crate::rules::RuleNames;
 use hem_base::{
     Firing, LineId, List, ObjectId, OutOfMemory, Place, Reserved, RuleId, Stands, Symbol,
-    TokenKind, is_reserved, word_bytes,
+    TokenKind, is_name, word_bytes,
 };
-use hem_syntax::Protocol;
-use hem_text::Language;
+use hem_syntax::{Names, Protocol};
+use hem_text::{Language, is_at_most, value_of};
 use std::alloc::Global;
 use std::marker::Model;
 
@@ -48,7 +47,7 @@ pub enum Item {
 /// being read.
 #[derive(Drop)]
 pub struct HistoryDraft<'a> {
-    pub(crate) rule_names: RuleNames<'a>,
+    pub(crate) rule_names: &'a Names,
     pub(crate) firings: List<Firing>,
     pub(crate) line: LineId,
     pub(crate) object: ObjectId,
@@ -60,7 +59,7 @@ impl<'a> Model for HistoryDraft<'a> {
     ghost Value = { Read };
 
     ghost view = { λ d. record {
-      rule_names = d.rule_names;
+      rule_names = d.rule_names.now;
       firings = d.firings;
       line = d.line;
       object = d.object;
@@ -79,15 +78,15 @@ pub(crate) fn start() -> &'static [Symbol<Terminal, Item>]
 }
 
 /// Nothing is read yet.
-pub(crate) fn nothing<'a>(alloc: Global, p: &'a Protocol) -> Result<HistoryDraft<'a>, OutOfMemory>
-    ensures { IfOk result (λ d. d ≡ nothing p.entry.now) }
+pub(crate) fn nothing<'a>(alloc: Global, p: &'a Protocol) -> HistoryDraft<'a>
+    ensures { result ≡ nothing p.entry.now }
 {
-    Ok(HistoryDraft {
-        rule_names: RuleNames::new(alloc, p.rule_names.as_slice())?,
+    HistoryDraft {
+        rule_names: p.rule_names(),
         firings: List::new(alloc),
         line: LineId(0),
         object: ObjectId(0),
-    })
+    }
 }
 
 fn is_word(kind: TokenKind) -> bool
@@ -112,6 +111,17 @@ fn is_the_word(word: Reserved, kind: TokenKind, text: &[u8]) -> bool
     ensures { result ≡ is_the_word word kind text.now }
 {
     is_word(kind) && word_bytes(word) == text
+}
+
+/// The first rule of that name.
+fn rule_of(rule_names: &Names, text: &[u8]) -> Result<RuleId, OutOfMemory>
+    ensures { IfOk result (λ rule. rule.0 ≡ unwrap_or (place_in rule_names.now text.now) 0) }
+{
+    match u32::try_from(rule_names.place(text).unwrap_or(0)) {
+        Ok(place) => Ok(RuleId(place)),
+        // So many names don't fit into memory.
+        Err(_) => Err(OutOfMemory),
+    }
 }
 
 /// Lets the last firing take from a child.
@@ -167,7 +177,7 @@ impl<'a> Language for HistoryDraft<'a> {
     fn is_name(kind: TokenKind, text: &[u8], place: Place) -> bool
         ensures { result ≡ is_name kind text.now }
     {
-        is_word(kind) && !is_reserved(text)
+        is_name(kind, text)
     }
 
     fn spells(&self, terminal: Terminal, kind: TokenKind, text: &[u8], _place: Place) -> bool {
@@ -206,7 +216,7 @@ impl<'a> Language for HistoryDraft<'a> {
                 let firing = Firing {
                     line: self.line,
                     object: self.object,
-                    rule: RuleId(self.rule_names.place(text).unwrap_or(0)),
+                    rule: rule_of(self.rule_names, text)?,
                     me: None,
                 };
                 self.firings.push(firing)?;

@@ -28,13 +28,8 @@ pub fn read_history(
     ensures stays { OnErr result (cursor.new.at ≡ cursor.old.at) }
 {
     let mut stack = Stack::new(alloc);
-    if stack.put(start()).is_err() {
-        return Err(TextError::OutOfMemory);
-    }
-    let mut draft = match nothing(alloc, p) {
-        Ok(draft) => draft,
-        Err(_) => return Err(TextError::OutOfMemory),
-    };
+    stack.put(start())?;
+    let mut draft = nothing(alloc, p);
     match read(
         &mut draft,
         &mut stack,
