@@ -1,0 +1,4 @@
+pub mod JoinedTexts
+pub mod NameTexts
+pub mod StateTexts
+pub mod Examples

@@ -1,0 +1,5 @@
+pub mod Texts
+pub mod BlocksText
+pub mod LocalText
+pub mod StateText
+pub mod Places
