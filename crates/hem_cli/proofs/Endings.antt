@@ -3,9 +3,9 @@ use Rattle.std.proofs.Common.{◌≡◌, ◌∙◌, refl, sym, ap, arith, ℕ, z
 use Rattle.std.specs.Prelude.{option_and_then, slice_get}
 use Rattle.hem_base.specs.declared.ids.Firing.{Firing}
 use Rattle.hem_syntax.specs.Protocol.{Protocol}
-use Rattle.hem_cli.specs.Tree.{Tree}
-use Rattle.hem_cli.specs.State.{State, fire, run}
-use Rattle.hem_cli.specs.Replays.{IsReplay}
+use Rattle.hem_tree.specs.Tree.{Tree}
+use Rattle.hem_system.specs.State.{State, fire, run}
+use Rattle.hem_system.specs.Replays.{IsReplay}
 
 -- where a history ends: the place of the first firing that isn't possible, if there is one, and the state
 record Ending : Type 0 where

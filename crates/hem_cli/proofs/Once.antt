@@ -1,94 +1,120 @@
 -- Words and bytes have one answer.
-use Rattle.std.proofs.Common.{◌≡◌, refl, ap, subst, arith, ℕ, List, ◌++◌, Option, Some, None, sym, ◌∙◌, inl, inr}
-use Rattle.std.specs.Prelude.{IfSome, ◌⊎◌}
+use Rattle.std.proofs.Common.{◌≡◌, refl, ap, subst, arith, ℕ, List, Option, Some, None, sym, ◌∙◌, inl, inr}
+use Rattle.std.specs.Prelude.{IfSome, ◌⊎◌, ◌++◌}
 use Rattle.std.specs.Io.KnownBytes.{Appends}
-use Rattle.hem_cli.specs.State.{State}
-use Rattle.hem_cli.specs.Order.{entries_of, printed}
-use Rattle.hem_cli.specs.Document.{Document, tree_of, start_of}
-use Rattle.hem_cli.specs.Replays.{IsReplay}
-use Rattle.hem_cli.specs.Texts.{illegal_text}
-use Rattle.hem_cli.specs.BlocksText.{blocks_text}
-use Rattle.hem_cli.specs.StateText.{word_of, state_text}
-use Rattle.hem_cli.specs.Answer.{Answer, IsGrouped, IsStopped}
+use Rattle.hem_system.specs.State.{State}
+use Rattle.hem_report.specs.Texts.{illegal_text}
+use Rattle.hem_report.specs.StateText.{state_text}
+use Rattle.hem_cli.specs.Document.{Document, tree_in, start_in}
+use Rattle.hem_cli.specs.Texts.{fault_text, setup_text, grouped_text}
+use Rattle.hem_cli.specs.Answer.{Answer, IsUnread, IsUnlawful, IsStopped, IsGrouped, IsRepliedTo, IsReply}
 use Rattle.hem_cli.specs.Outcome.{Says, IsWhole}
 use Rattle.hem_cli.specs.declared.status.Status.{Status}
-use Rattle.hem_cli.specs.declared.status.Status.TheVariants.{Done, Usage, ReadFault, WriteFault, TooLong, Illegal, Memory, NotBuilt}
+use Rattle.hem_cli.specs.declared.status.Status.TheVariants.{Done, Usage, ReadFault, WriteFault, TooLong, Text, Setup, Illegal, Memory}
 use Rattle.hem_cli.proofs.Endings.{replay_once}
-use Rattle.hem_cli.proofs.OneFormReads.{document_once}
+use Rattle.hem_cli.proofs.ReadOnce.{document_once, fault_once, never_both}
+use Rattle.hem_cli.proofs.SetUpOnce.{setup_fault_once, lawful_excludes}
 
--- the replay of a document's history
-abbrev Ends : Document → Option ℕ → State → Type 0
-Ends d place s = IsReplay d.protocol (tree_of d) (start_of d) d.history place s
+unread_once : (bytes x y : List ℕ) → IsUnread bytes x → IsUnread bytes y → x ≡ y
+unread_once bytes x y p q = p.says ∙ (ap fault_text (fault_once bytes p.fault q.fault p.first q.first) ∙ sym q.says)
 
--- two replays of documents that are the same end alike
-ends_once : (d e : Document) (i j : Option ℕ) (a b : State) → d ≡ e → Ends d i a → Ends e j b → (i ≡ j) × (a ≡ b)
-ends_once d e i j a b same one other =
-    subst (λ x. Ends x j b → (i ≡ j) × (a ≡ b)) same (replay_once d.protocol (tree_of d) (start_of d) a b d.history i j one) other
+unlawful_once : (d : Document) (x y : List ℕ) → IsUnlawful d x → IsUnlawful d y → x ≡ y
+unlawful_once d x y p q = p.says ∙ (ap setup_text (setup_fault_once d p.fault q.fault p.first q.first) ∙ sym q.says)
 
--- the text of a history that runs, and that of one that stops
-abbrev grouped_text : Document → State → List ℕ
-grouped_text d end = word_of end
-    ++ blocks_text d.protocol (printed (entries_of d.protocol (tree_of d) (start_of d) d.history))
-    ++ state_text d.protocol (tree_of d) end
-
+-- the text of a history that stops
 abbrev stopped_text : Document → ℕ → State → List ℕ
-stopped_text d place before = illegal_text place ++ state_text d.protocol (tree_of d) before
-
-grouped_once : (bytes x y : List ℕ) → IsGrouped bytes x → IsGrouped bytes y → x ≡ y
-grouped_once bytes x y p q =
-    let same = document_once bytes p.document q.document p.reads q.reads in
-    let ends = ends_once p.document q.document None None p.end q.end same p.runs q.runs in
-    p.says ∙ (ap (λ d. grouped_text d p.end) same ∙ ap (grouped_text q.document) ends.1) ∙ sym q.says
+stopped_text d place before = illegal_text place ++ state_text d.protocol (tree_in d) before
 
 same_place : (i j : ℕ) → Some i ≡ Some j → i ≡ j
 same_place i j is = cc
 
-stopped_once : (bytes x y : List ℕ) → IsStopped bytes x → IsStopped bytes y → x ≡ y
-stopped_once bytes x y p q =
-    let same = document_once bytes p.document q.document p.reads q.reads in
-    let ends = ends_once p.document q.document (Some p.place) (Some q.place) p.before q.before same p.stops q.stops in
-    p.says ∙ (ap (λ d. stopped_text d p.place p.before) same ∙ (ap (λ k. stopped_text q.document k p.before) (same_place p.place q.place ends.0) ∙ ap (stopped_text q.document q.place) ends.1)) ∙ sym q.says
+stopped_once : (d : Document) (x y : List ℕ) → IsStopped d x → IsStopped d y → x ≡ y
+stopped_once d x y p q =
+    let ends = replay_once d.protocol (tree_in d) (start_in d) p.before q.before d.history (Some p.place) (Some q.place) p.stops q.stops in
+    p.says ∙ ((ap (λ k. stopped_text d k p.before) (same_place p.place q.place ends.0) ∙ ap (stopped_text d q.place) ends.1) ∙ sym q.says)
 
-not_both : (place : ℕ) → None ≡ Some place → ⊥
-not_both place is = cc
+grouped_once : (d : Document) (x y : List ℕ) → IsGrouped d x → IsGrouped d y → x ≡ y
+grouped_once d x y p q =
+    let ends = replay_once d.protocol (tree_in d) (start_in d) p.end q.end d.history None None p.runs q.runs in
+    p.says ∙ (ap (grouped_text d.protocol (tree_in d) (start_in d) d.history) ends.1 ∙ sym q.says)
 
-never_both : (bytes x y : List ℕ) → IsGrouped bytes x → IsStopped bytes y → ⊥
-never_both bytes x y p q =
+no_place : (place : ℕ) → None ≡ Some place → ⊥
+no_place place is = cc
+
+runs_or_stops : (d : Document) (x y : List ℕ) → IsGrouped d x → IsStopped d y → ⊥
+runs_or_stops d x y p q =
+    let ends = replay_once d.protocol (tree_in d) (start_in d) p.end q.before d.history None (Some q.place) p.runs q.stops in
+    no_place q.place ends.0
+
+-- a document has one answer
+replied_once : (d : Document) (a b : Status) (x y : List ℕ) → IsRepliedTo d a x → IsRepliedTo d b y → (a ≡ b) × (x ≡ y)
+replied_once d Setup Setup x y p q = (refl, unlawful_once d x y p q)
+replied_once d Setup Illegal x y p q = absurd (lawful_excludes d p.fault q.lawful p.first)
+replied_once d Setup Done x y p q = absurd (lawful_excludes d p.fault q.lawful p.first)
+replied_once d Setup b x y p q = absurd q
+replied_once d Illegal Setup x y p q = absurd (lawful_excludes d q.fault p.lawful q.first)
+replied_once d Illegal Illegal x y p q = (refl, stopped_once d x y p q)
+replied_once d Illegal Done x y p q = absurd (runs_or_stops d y x q p)
+replied_once d Illegal b x y p q = absurd q
+replied_once d Done Setup x y p q = absurd (lawful_excludes d q.fault p.lawful q.first)
+replied_once d Done Illegal x y p q = absurd (runs_or_stops d x y p q)
+replied_once d Done Done x y p q = (refl, grouped_once d x y p q)
+replied_once d Done b x y p q = absurd q
+replied_once d a b x y p q = absurd p
+
+-- bytes that are a document have one answer
+reply_once : (bytes : List ℕ) (a b : Status) (x y : List ℕ) → IsReply bytes a x → IsReply bytes b y → (a ≡ b) × (x ≡ y)
+reply_once bytes a b x y p q =
     let same = document_once bytes p.document q.document p.reads q.reads in
-    let ends = ends_once p.document q.document None (Some q.place) p.end q.before same p.runs q.stops in
-    not_both q.place ends.0
+    replied_once q.document a b x y (subst (λ d. IsRepliedTo d a x) same p.replied) q.replied
+
+-- bytes that are a document have no fault
+read_or_not : (bytes : List ℕ) (a : Status) (x y : List ℕ) → IsReply bytes a x → IsUnread bytes y → ⊥
+read_or_not bytes a x y p q = never_both bytes p.document q.fault p.reads q.first
 
 -- words and bytes have one status with one text
 pub answer_once : (words : List (List ℕ)) (bytes : List ℕ) (a b : Status) (x y : List ℕ) → Answer words bytes a x → Answer words bytes b y → (a ≡ b) × (x ≡ y)
 answer_once words bytes Usage Usage x y p q = (refl, p.1 ∙ sym q.1)
 answer_once words bytes Usage TooLong x y p q = absurd (p.0 q.0)
-answer_once words bytes Usage NotBuilt x y p q = absurd (p.0 q.0)
+answer_once words bytes Usage Text x y p q = absurd (p.0 q.0)
+answer_once words bytes Usage Setup x y p q = absurd (p.0 q.0)
 answer_once words bytes Usage Illegal x y p q = absurd (p.0 q.0)
 answer_once words bytes Usage Done x y p q = absurd (p.0 q.0)
 answer_once words bytes Usage b x y p q = absurd q
 answer_once words bytes TooLong Usage x y p q = absurd (q.0 p.0)
 answer_once words bytes TooLong TooLong x y p q = (refl, p.2 ∙ sym q.2)
-answer_once words bytes TooLong NotBuilt x y p q = absurd (omega (arith, p.1, q.1))
+answer_once words bytes TooLong Text x y p q = absurd (omega (arith, p.1, q.1))
+answer_once words bytes TooLong Setup x y p q = absurd (omega (arith, p.1, q.1))
 answer_once words bytes TooLong Illegal x y p q = absurd (omega (arith, p.1, q.1))
 answer_once words bytes TooLong Done x y p q = absurd (omega (arith, p.1, q.1))
 answer_once words bytes TooLong b x y p q = absurd q
-answer_once words bytes NotBuilt Usage x y p q = absurd (q.0 p.0)
-answer_once words bytes NotBuilt TooLong x y p q = absurd (omega (arith, p.1, q.1))
-answer_once words bytes NotBuilt NotBuilt x y p q = (refl, p.3 ∙ sym q.3)
-answer_once words bytes NotBuilt Illegal x y p q = absurd (p.2 q.2.document q.2.reads)
-answer_once words bytes NotBuilt Done x y p q = absurd (p.2 q.2.document q.2.reads)
-answer_once words bytes NotBuilt b x y p q = absurd q
+answer_once words bytes Text Usage x y p q = absurd (q.0 p.0)
+answer_once words bytes Text TooLong x y p q = absurd (omega (arith, p.1, q.1))
+answer_once words bytes Text Text x y p q = (refl, unread_once bytes x y p.2 q.2)
+answer_once words bytes Text Setup x y p q = absurd (read_or_not bytes Setup y x q.2 p.2)
+answer_once words bytes Text Illegal x y p q = absurd (read_or_not bytes Illegal y x q.2 p.2)
+answer_once words bytes Text Done x y p q = absurd (read_or_not bytes Done y x q.2 p.2)
+answer_once words bytes Text b x y p q = absurd q
+answer_once words bytes Setup Usage x y p q = absurd (q.0 p.0)
+answer_once words bytes Setup TooLong x y p q = absurd (omega (arith, p.1, q.1))
+answer_once words bytes Setup Text x y p q = absurd (read_or_not bytes Setup x y p.2 q.2)
+answer_once words bytes Setup Setup x y p q = reply_once bytes Setup Setup x y p.2 q.2
+answer_once words bytes Setup Illegal x y p q = reply_once bytes Setup Illegal x y p.2 q.2
+answer_once words bytes Setup Done x y p q = reply_once bytes Setup Done x y p.2 q.2
+answer_once words bytes Setup b x y p q = absurd q
 answer_once words bytes Illegal Usage x y p q = absurd (q.0 p.0)
 answer_once words bytes Illegal TooLong x y p q = absurd (omega (arith, p.1, q.1))
-answer_once words bytes Illegal NotBuilt x y p q = absurd (q.2 p.2.document p.2.reads)
-answer_once words bytes Illegal Illegal x y p q = (refl, stopped_once bytes x y p.2 q.2)
-answer_once words bytes Illegal Done x y p q = absurd (never_both bytes y x q.2 p.2)
+answer_once words bytes Illegal Text x y p q = absurd (read_or_not bytes Illegal x y p.2 q.2)
+answer_once words bytes Illegal Setup x y p q = reply_once bytes Illegal Setup x y p.2 q.2
+answer_once words bytes Illegal Illegal x y p q = reply_once bytes Illegal Illegal x y p.2 q.2
+answer_once words bytes Illegal Done x y p q = reply_once bytes Illegal Done x y p.2 q.2
 answer_once words bytes Illegal b x y p q = absurd q
 answer_once words bytes Done Usage x y p q = absurd (q.0 p.0)
 answer_once words bytes Done TooLong x y p q = absurd (omega (arith, p.1, q.1))
-answer_once words bytes Done NotBuilt x y p q = absurd (q.2 p.2.document p.2.reads)
-answer_once words bytes Done Illegal x y p q = absurd (never_both bytes x y p.2 q.2)
-answer_once words bytes Done Done x y p q = (refl, grouped_once bytes x y p.2 q.2)
+answer_once words bytes Done Text x y p q = absurd (read_or_not bytes Done x y p.2 q.2)
+answer_once words bytes Done Setup x y p q = reply_once bytes Done Setup x y p.2 q.2
+answer_once words bytes Done Illegal x y p q = reply_once bytes Done Illegal x y p.2 q.2
+answer_once words bytes Done Done x y p q = reply_once bytes Done Done x y p.2 q.2
 answer_once words bytes Done b x y p q = absurd q
 answer_once words bytes a b x y p q = absurd p
 

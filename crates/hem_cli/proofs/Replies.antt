@@ -1,55 +1,83 @@
--- What the replies to a document say.
-use Rattle.std.proofs.Common.{◌≡◌, ◌∙◌, refl, ap, subst, arith, ℕ, ◌+◌, ◌-◌, List, [], ◌∷◌, ◌++◌, length, Option, Some, None}
-use Rattle.hem_base.specs.declared.ids.Firing.{Firing}
-use Rattle.hem_syntax.specs.Protocol.{Protocol}
-use Rattle.hem_cli.specs.Tree.{Tree}
-use Rattle.hem_cli.specs.State.{State, Line, Runs}
-use Rattle.hem_cli.specs.Document.{Document, IsOneStep, root_with, tree_of, start_of}
-use Rattle.hem_cli.specs.OneFormDocument.{IsDocument}
-use Rattle.hem_cli.specs.Replays.{IsIllegal, IsReplay}
-use Rattle.hem_cli.specs.Singles.{singles}
-use Rattle.hem_cli.specs.Texts.{illegal_text}
-use Rattle.hem_cli.specs.BlocksText.{blocks_text}
-use Rattle.hem_cli.specs.StateText.{word_of, state_text}
-use Rattle.hem_cli.specs.Answer.{IsGrouped, IsStopped}
-use Rattle.hem_cli.proofs.OneStepOrder.{one_step-printed}
+-- The replies to a document and to bytes that are none.
+use Rattle.std.proofs.Common.{◌≡◌, ◌∙◌, sym, subst, ℕ, ◌≤◌, List, ◌++◌, length}
+use Rattle.std.specs.Prelude.{Result, Ok, Err, IfOk}
+use Rattle.hem_base.specs.declared.outside.OutOfMemory.{OutOfMemory}
+use Rattle.hem_base.specs.declared.setup.Setup.{Setup as Fault}
+use Rattle.hem_text.specs.declared.reader.TextFault.{TextFault}
+use Rattle.hem_tree.specs.Tree.{Tree}
+use Rattle.hem_work.specs.Work.{Work}
+use Rattle.hem_system.specs.State.{State, start, Runs}
+use Rattle.hem_system.specs.Replays.{IsIllegal}
+use Rattle.hem_report.specs.Texts.{illegal_text}
+use Rattle.hem_report.specs.StateText.{state_text}
+use Rattle.hem_cli.specs.Document.{Document, IsDocument, tree_in, work_in, start_in}
+use Rattle.hem_cli.specs.Faults.{IsDocumentFault}
+use Rattle.hem_cli.specs.SetUp.{IsSetUp, IsSetupFault}
+use Rattle.hem_cli.specs.Texts.{fault_text, setup_text, grouped_text}
+use Rattle.hem_cli.specs.Answer.{Answer, IsGood, IsRepliedTo, most_bytes}
+use Rattle.hem_cli.specs.Outcome.{IsAfterReading}
+use Rattle.hem_cli.specs.declared.answer.Reply.{Reply}
+use Rattle.hem_cli.specs.declared.status.Status.{Status}
+use Rattle.hem_cli.specs.declared.status.Status.TheVariants.{Done, Text, Setup, Illegal}
 
--- the replay of a document, at which the line has an object more than there are leaves
-tree_there : (d : Document) (cells : Line) → length cells ≡ d.leaves + 1 → root_with (length cells - 1) ≡ tree_of d
-tree_there d cells size = let e : length cells - 1 ≡ d.leaves = omega arith in ap root_with e
-
-ran : (p : Protocol) (tree : Tree) (old now : State) (h : List Firing) (place : Option ℕ) → IsReplay p tree old h place now → place ≡ None → Runs p tree old h now
-ran p tree old now h None replay is = replay
-ran p tree old now h (Some k) replay is = cc
-
-stopped_at : (p : Protocol) (tree : Tree) (old now : State) (h : List Firing) (place : Option ℕ) (k : ℕ) → IsReplay p tree old h place now → place ≡ Some k → IsIllegal p tree old h k now
-stopped_at p tree old now h None k replay is = cc
-stopped_at p tree old now h (Some j) k replay is = let e : j ≡ k = cc in subst (λ i. IsIllegal p tree old h i now) e replay
+-- a text at its own status
+replied_at : (d : Document) (a status : Status) (s text : List ℕ) → status ≡ a → text ≡ s → IsRepliedTo d a s → IsRepliedTo d status text
+replied_at d a status s text same_status same_text replied =
+    subst (λ x. IsRepliedTo d x text) (sym same_status) (subst (λ x. IsRepliedTo d a x) (sym same_text) replied)
 
 -- a history that runs
-pub grouped : (d : Document) (bytes : List ℕ) (cells : Line) (place : Option ℕ) (text : List ℕ) → IsOneStep d → IsDocument bytes d
-    → IsReplay d.protocol (tree_of d) (start_of d) d.history place (cells ∷ []) → length cells ≡ d.leaves + 1 → place ≡ None
-    → text ≡ word_of (cells ∷ []) ++ blocks_text d.protocol (singles 0 d.history) ++ state_text d.protocol (root_with (length cells - 1)) (cells ∷ []) → IsGrouped bytes text
-grouped d bytes cells place text one reads replay size none is =
-    let runs = ran d.protocol (tree_of d) (start_of d) (cells ∷ []) d.history place replay none in
-    record {
-      document = d;
-      reads = reads;
-      end = cells ∷ [];
-      runs = runs;
-      says = is ∙ rw (tree_there d cells size, one_step-printed d (cells ∷ []) one runs) refl;
-    }
+pub runs_replied : (d : Document) (tree : Tree) (work : Work) (end : State) (s : List ℕ) (status : Status) (text : List ℕ) → IsSetUp d → tree ≡ tree_in d → work ≡ work_in d
+    → Runs d.protocol tree (start d.protocol tree work) d.history end
+    → ((old : State) → Runs d.protocol tree old d.history end → s ≡ grouped_text d.protocol tree old d.history end)
+    → status ≡ Done → text ≡ s → IsRepliedTo d status text
+runs_replied d tree work end s status text lawful same_tree same_work runs says same_status same_text =
+    let ran = subst (λ w. Runs d.protocol (tree_in d) (start d.protocol (tree_in d) w) d.history end) same_work
+    (subst (λ t. Runs d.protocol t (start d.protocol t work) d.history end) same_tree runs) in
+    let said = subst (λ t. (old : State) → Runs d.protocol t old d.history end → s ≡ grouped_text d.protocol t old d.history end) same_tree says in
+    replied_at d Done status s text same_status same_text (record { lawful = lawful; end = end; runs = ran; says = said (start_in d) ran })
 
--- a history with a firing that isn't possible
-pub stopped : (d : Document) (bytes : List ℕ) (cells : Line) (place : Option ℕ) (k : ℕ) (text : List ℕ) → IsDocument bytes d
-    → IsReplay d.protocol (tree_of d) (start_of d) d.history place (cells ∷ []) → length cells ≡ d.leaves + 1 → place ≡ Some k
-    → text ≡ illegal_text k ++ state_text d.protocol (root_with (length cells - 1)) (cells ∷ []) → IsStopped bytes text
-stopped d bytes cells place k text reads replay size some is =
-    record {
-      document = d;
-      reads = reads;
-      place = k;
-      before = cells ∷ [];
-      stops = stopped_at d.protocol (tree_of d) (start_of d) (cells ∷ []) d.history place k replay some;
-      says = is ∙ rw (tree_there d cells size) refl;
-    }
+-- a history that stops
+pub stops_replied : (d : Document) (tree : Tree) (work : Work) (place : ℕ) (before : State) (s : List ℕ) (status : Status) (text : List ℕ) → IsSetUp d → tree ≡ tree_in d → work ≡ work_in d
+    → IsIllegal d.protocol tree (start d.protocol tree work) d.history place before → s ≡ illegal_text place ++ state_text d.protocol tree before
+    → status ≡ Illegal → text ≡ s → IsRepliedTo d status text
+stops_replied d tree work place before s status text lawful same_tree same_work stops says same_status same_text =
+    let stopped = subst (λ w. IsIllegal d.protocol (tree_in d) (start d.protocol (tree_in d) w) d.history place before) same_work
+    (subst (λ t. IsIllegal d.protocol t (start d.protocol t work) d.history place before) same_tree stops) in
+    let said = subst (λ t. s ≡ illegal_text place ++ state_text d.protocol t before) same_tree says in
+    replied_at d Illegal status s text same_status same_text (record { lawful = lawful; place = place; before = before; stops = stopped; says = said })
+
+-- a tree or a work that isn't lawful
+pub unlawful_replied : (d : Document) (f : Fault) (s : List ℕ) (status : Status) (text : List ℕ) → IsSetupFault d f → s ≡ setup_text f → status ≡ Setup → text ≡ s → IsRepliedTo d status text
+unlawful_replied d f s status text first says same_status same_text =
+    replied_at d Setup status s text same_status same_text (record { fault = f; first = first; says = says })
+
+-- the reply to a document answers its bytes
+document_answered : (bytes : List ℕ) (d : Document) (status : Status) (text : List ℕ) → length bytes ≤ most_bytes → IsDocument bytes d → IsRepliedTo d status text
+    → (words : List (List ℕ)) → IsGood words → Answer words bytes status text
+document_answered bytes d Setup text few reads replied = λ words good. (good, few, record { document = d; reads = reads; replied = replied })
+document_answered bytes d Illegal text few reads replied = λ words good. (good, few, record { document = d; reads = reads; replied = replied })
+document_answered bytes d Done text few reads replied = λ words good. (good, few, record { document = d; reads = reads; replied = replied })
+document_answered bytes d status text few reads replied = absurd replied
+
+-- a document is answered once all is read
+document_after : (d : Document) (status : Status) (text : List ℕ) → IsRepliedTo d status text → IsAfterReading status
+document_after d Setup text replied = tt
+document_after d Illegal text replied = tt
+document_after d Done text replied = tt
+document_after d status text replied = absurd replied
+
+-- the reply to a document, unless memory ran out
+pub reply_answered : (bytes : List ℕ) (d : Document) (r : Result Reply OutOfMemory) → length bytes ≤ most_bytes → IsDocument bytes d → IfOk r (λ x. IsRepliedTo d x.status x.text.items)
+    → IfOk r (λ x. (words : List (List ℕ)) → IsGood words → Answer words bytes x.status x.text.items)
+reply_answered bytes d (Ok x) few reads replied = document_answered bytes d x.status x.text.items few reads replied
+reply_answered bytes d (Err e) few reads replied = tt
+
+pub reply_after : (d : Document) (r : Result Reply OutOfMemory) → IfOk r (λ x. IsRepliedTo d x.status x.text.items) → IfOk r (λ x. IsAfterReading x.status)
+reply_after d (Ok x) replied = document_after d x.status x.text.items replied
+reply_after d (Err e) replied = tt
+
+-- bytes that are no document are answered by their first fault
+pub fault_answered : (bytes : List ℕ) (f : TextFault) (s : List ℕ) (status : Status) (text : List ℕ) → length bytes ≤ most_bytes → IsDocumentFault bytes f → s ≡ fault_text f
+    → status ≡ Text → text ≡ s → (words : List (List ℕ)) → IsGood words → Answer words bytes status text
+fault_answered bytes f s status text few first says same_status same_text = λ words good.
+    subst (λ x. Answer words bytes x text) (sym same_status) (good, few, record { fault = f; first = first; says = same_text ∙ says })

@@ -1,15 +1,13 @@
 -- What a reply says, with sources that may not tell their bytes.
-use Rattle.std.proofs.Common.{◌≡◌, ℕ, ◌+◌, ◌<◌, ◌≤◌, ◌↔◌, List, length, Option, Some, None, ap, refl, sym, subst, arith, length-append}
+use Rattle.std.proofs.Common.{◌≡◌, ℕ, ◌+◌, ◌<◌, ◌≤◌, ◌↔◌, List, length, Option, Some, None, ap, subst, arith, length-append}
 use Rattle.std.proofs.lemmas.List.{length-replicate}
-use Rattle.std.specs.Prelude.{IsNone, codes, Result, Ok, Err, IfOk, replicate}
+use Rattle.std.specs.Prelude.{Result, Ok, Err, IfOk, replicate}
 use Rattle.hem_base.specs.declared.outside.OutOfMemory.{OutOfMemory}
 use Rattle.hem_io.specs.Reading.{ReadsAll, TakesFront}
 use Rattle.hem_cli.specs.declared.answer.Reply.{Reply}
 use Rattle.hem_cli.specs.declared.status.Status.{Status}
-use Rattle.hem_cli.specs.declared.status.Status.TheVariants.{ReadFault, NotBuilt}
-use Rattle.hem_cli.specs.Document.{Document}
-use Rattle.hem_cli.specs.OneFormDocument.{IsDocument}
-use Rattle.hem_cli.specs.Answer.{Answer, IsGood, most_bytes}
+use Rattle.hem_cli.specs.declared.status.Status.TheVariants.{ReadFault}
+use Rattle.hem_cli.specs.Answer.{Answer, IsGood}
 use Rattle.hem_cli.specs.Outcome.{Says, OfBytes, IsAfterReading}
 
 -- where one byte more than n was taken, more than n bytes were left
@@ -42,14 +40,3 @@ pub read_says : (words : List (List ℕ)) (left new : Option (List ℕ)) (bytes 
 read_says words left new bytes (Ok x) good read answers after =
     says_after words left x.status x.text.items after (of_read left new bytes (λ bs. Answer words bs x.status x.text.items) read (answers words good))
 read_says words left new bytes (Err e) good read answers after = tt
-
-none_there : {X : Type 0} (o : Option X) (A : Type 0) → (IsNone o → A) → o ≡ None → A
-none_there None A holds is = holds refl
-none_there (Some x) A holds is = cc
-
--- a reply to bytes that are no document
-pub not_built_says : (bytes : List ℕ) (o : Option Document) (r : Result Reply OutOfMemory) → length bytes ≤ most_bytes → (IsNone o → (d : Document) → IsDocument bytes d → ⊥) → o ≡ None
-    → IfOk r (λ x. x.status ≡ NotBuilt) → IfOk r (λ x. x.text.items ≡ codes "not built\n") → IfOk r (λ x. (words : List (List ℕ)) → IsGood words → Answer words bytes x.status x.text.items)
-not_built_says bytes o (Ok x) few none is status text = λ words good.
-    subst (λ s. Answer words bytes s x.text.items) (sym status) (good, few, none_there o ((d : Document) → IsDocument bytes d → ⊥) none is, text)
-not_built_says bytes o (Err e) few none is status text = tt

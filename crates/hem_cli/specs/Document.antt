@@ -1,60 +1,61 @@
--- A document of the one-step form: a protocol whose leaves answer at once, a root with leaves, requests and a history.
-use Rattle.std.specs.Prelude.{ℕ, ◌≡◌, ◌≤◌, zero, suc, List, [], ◌∷◌, length, Some, None, All}
-use Rattle.hem_base.specs.declared.ids.Message.{Message}
+-- A document of the job group: a protocol, a tree, a work and a history, one after another, and then the end.
+use Rattle.std.specs.Prelude.{ℕ, List, length}
 use Rattle.hem_base.specs.declared.ids.Firing.{Firing}
-use Rattle.hem_base.specs.declared.ids.Kind.TheVariants.{Root, Leaf}
+use Rattle.hem_base.specs.Tokens.{tokens_of}
 use Rattle.hem_syntax.specs.Protocol.{Protocol}
-use Rattle.hem_fire.specs.OneRule.{IsOneRule}
-use Rattle.hem_cli.specs.Tree.{Tree, Node}
-use Rattle.hem_cli.specs.State.{State, Work, start}
+use Rattle.hem_tree.specs.declared.raw.RawNode.{RawNode}
+use Rattle.hem_tree.specs.Tree.{Tree}
+use Rattle.hem_tree.specs.Raw.{tree_of}
+use Rattle.hem_tree.specs.Reading.{ReadsTree}
+use Rattle.hem_work.specs.declared.raw.RawWork.{RawWork}
+use Rattle.hem_work.specs.Work.{Work}
+use Rattle.hem_work.specs.Setup.{work_of}
+use Rattle.hem_work.specs.Reading.{ReadsWork}
+use Rattle.hem_system.specs.State.{State, start}
+use Rattle.hem_trace.specs.Reading.{ReadsHistory}
+use Rattle.hem_parser.specs.Reading.{ReadsProtocol}
 
--- what a document of the one-step form says
+-- what a document says
 pub record Document : Type 0 where
   pub protocol : Protocol
-  -- how many leaves the root has
-  pub leaves : ℕ
-  -- the requests of each leaf, in the order of the leaves
-  pub requests : List (List Message)
+  pub tree : List RawNode
+  pub work : RawWork
   pub history : List Firing
 
--- n leaves under object 0
-abbrev pub leaf_nodes : ℕ → List Node
-leaf_nodes zero = []
-leaf_nodes (suc n) = record { kind = Leaf; parent = Some 0 } ∷ leaf_nodes n
+-- the tokens of the bytes from one place to the other are a protocol
+abbrev pub IsProtocolAt : List ℕ → ℕ → ℕ → Protocol → Type 0
+IsProtocolAt bytes at end p = ReadsProtocol bytes (tokens_of bytes) at end p
 
--- a root with n leaves
-abbrev pub root_with : ℕ → Tree
-root_with n = record { kind = Root; parent = None } ∷ leaf_nodes n
+-- the tokens of the bytes from one place to the other are a tree
+abbrev pub IsTreeAt : List ℕ → ℕ → ℕ → List RawNode → Type 0
+IsTreeAt bytes at end nodes = ReadsTree bytes (tokens_of bytes) at end nodes
 
--- the tree of a document
-abbrev pub tree_of : Document → Tree
-tree_of d = root_with d.leaves
+-- the tokens of the bytes from one place to the other are a work over the protocol's messages
+abbrev pub IsWorkAt : List ℕ → Protocol → ℕ → ℕ → RawWork → Type 0
+IsWorkAt bytes p at end work = ReadsWork p bytes (tokens_of bytes) at end work
 
--- its work: one line, no self firings, and the requests; the root has none
-abbrev pub work_of : Document → Work
-work_of d = record { lines = 1; self_count = 0; requests = ([] ∷ d.requests) ∷ [] }
+-- the tokens of the bytes from one place to the other are a history over the protocol's rules
+abbrev pub IsHistoryAt : List ℕ → Protocol → ℕ → ℕ → List Firing → Type 0
+IsHistoryAt bytes p at end history = ReadsHistory p bytes (tokens_of bytes) at end history
 
--- the state at the start
-abbrev pub start_of : Document → State
-start_of d = start d.protocol (tree_of d) (work_of d)
+-- the bytes are the document: its four parts stand one after another, and after the history is the end
+pub record IsDocument (bytes : List ℕ) (d : Document) : Type 0 where
+  pub protocol_end : ℕ
+  pub tree_end : ℕ
+  pub work_end : ℕ
+  pub protocol : IsProtocolAt bytes 0 protocol_end d.protocol
+  pub tree : IsTreeAt bytes protocol_end tree_end d.tree
+  pub work : IsWorkAt bytes d.protocol tree_end work_end d.work
+  pub history : IsHistoryAt bytes d.protocol work_end (length (tokens_of bytes)) d.history
 
--- the firing names no child
-abbrev pub NamesNoChild : Firing → Type 0
-NamesNoChild f = f.me ≡ None
+-- the tree of objects of a document
+abbrev pub tree_in : Document → Tree
+tree_in d = tree_of d.tree
 
--- what every document of the one-step form keeps: only leaves have rules, each of which takes a processor's request and answers it
-pub record IsOneStep (d : Document) : Type 0 where
-  pub root_rules : d.protocol.root.rules ≡ []
-  pub mid_rules : d.protocol.mid.rules ≡ []
-  pub leaf_rules : All IsOneRule d.protocol.leaf.rules
-  pub leaf_dir : d.protocol.leaf.dir ≡ None
-  pub few_statuses : length d.protocol.statuses ≤ 4
-  pub few_messages : length d.protocol.messages ≤ 64
-  pub few_rules : length d.protocol.rule_names ≤ 64
-  pub few_fields : length d.protocol.leaf.fields ≤ 3
-  pub no_root_fields : d.protocol.root.fields ≡ []
-  pub no_mid_fields : d.protocol.mid.fields ≡ []
-  pub some_leaf : 1 ≤ d.leaves
-  pub few_leaves : d.leaves ≤ 8
-  pub each_leaf : length d.requests ≡ d.leaves
-  pub no_child : All NamesNoChild d.history
+-- the work of a document
+abbrev pub work_in : Document → Work
+work_in d = work_of d.work (length (tree_in d))
+
+-- the state at the start of a document
+abbrev pub start_in : Document → State
+start_in d = start d.protocol (tree_in d) (work_in d)

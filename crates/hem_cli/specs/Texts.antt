@@ -1,49 +1,57 @@
--- Texts of names, messages and firings, as bytes.
-use Rattle.std.specs.Prelude.{ℕ, ◌+◌, List, [], ◌∷◌, ◌++◌, Option, None, Some, slice_get, unwrap_or, codes, decimal}
-use Rattle.std.specs.Option.{option_map_or}
-use Rattle.hem_base.specs.declared.ids.Status8.{Status8}
-use Rattle.hem_base.specs.declared.ids.RuleId.{RuleId}
-use Rattle.hem_base.specs.declared.ids.MsgId.{MsgId}
-use Rattle.hem_base.specs.declared.ids.LineId.{LineId}
-use Rattle.hem_base.specs.declared.ids.ObjectId.{ObjectId}
-use Rattle.hem_base.specs.declared.ids.Message.{Message}
+-- The texts of faults, as bytes, and the text of a history that runs.
+use Rattle.std.specs.Prelude.{List, [], ◌++◌, cond, codes, decimal}
 use Rattle.hem_base.specs.declared.ids.Firing.{Firing}
+use Rattle.hem_base.specs.declared.text.Place.{Place}
+use Rattle.hem_base.specs.declared.text.Cause.{Cause}
+use Rattle.hem_base.specs.declared.text.Cause.TheVariants as cause
+use Rattle.hem_base.specs.declared.setup.Setup.{Setup}
+use Rattle.hem_base.specs.declared.setup.SetupCause.{SetupCause}
+use Rattle.hem_base.specs.declared.setup.SetupCause.TheVariants as rule
+use Rattle.hem_text.specs.declared.reader.TextFault.{TextFault}
 use Rattle.hem_syntax.specs.Protocol.{Protocol, Text}
+use Rattle.hem_tree.specs.Tree.{Tree}
+use Rattle.hem_system.specs.State.{State}
+use Rattle.hem_trace.specs.Order.{entries_of, printed}
+use Rattle.hem_trace.specs.OneStep.{is_one_step}
+use Rattle.hem_report.specs.BlocksText.{blocks_text}
+use Rattle.hem_report.specs.StateText.{word_of, state_text}
 
--- a text of place and element, for each element, one after another, the first at place k
-abbrev pub text_of_each : {A : Type 0} → (ℕ → A → Text) → ℕ → List A → Text
-text_of_each f k [] = []
-text_of_each f k (x ∷ xs) = f k x ++ text_of_each f (k + 1) xs
+-- a place: line and column
+abbrev pub place_text : Place → Text
+place_text place = decimal place.line ++ codes ":" ++ decimal place.column
 
--- the name of a status
-abbrev pub status_text : Protocol → Status8 → Text
-status_text p s = unwrap_or (slice_get p.statuses s.0) []
+-- why a token can't stand
+abbrev pub cause_text : Cause → Text
+cause_text cause.Unknown = codes "unknown"
+cause_text cause.Repeated = codes "repeated"
+cause_text cause.Expected = codes "expected"
+cause_text cause.TooMany = codes "too many"
 
--- the name of a rule
-abbrev pub rule_text : Protocol → RuleId → Text
-rule_text p rule = unwrap_or (slice_get p.rule_names rule.0) []
+-- which rule of a tree or a work is broken
+abbrev pub rule_text : SetupCause → Text
+rule_text rule.Objects = codes "objects"
+rule_text rule.Children = codes "children"
+rule_text rule.Levels = codes "levels"
+rule_text rule.Lines = codes "lines"
+rule_text rule.SelfCount = codes "self"
+rule_text rule.Object = codes "object"
+rule_text rule.Line = codes "line"
+rule_text rule.Request = codes "request"
+rule_text rule.Requests = codes "requests"
+rule_text rule.Starts = codes "starts"
 
--- the name of a message id
-abbrev pub id_text : Protocol → MsgId → Text
-id_text p id = option_map_or (λ m. m.0) (slice_get p.messages id.0) []
+-- the first fault of a text
+abbrev pub fault_text : TextFault → Text
+fault_text f = codes "text " ++ place_text f.place ++ codes " " ++ cause_text f.cause ++ codes "\n"
 
--- a message: its id and its value
-abbrev pub message_text : Protocol → Message → Text
-message_text p m = id_text p m.id ++ codes ":" ++ decimal m.value
+-- the first broken rule of a tree or a work
+abbrev pub setup_text : Setup → Text
+setup_text f = codes "setup " ++ place_text f.place ++ codes " " ++ rule_text f.cause ++ codes "\n"
 
--- the child that a firing names
-abbrev pub from_text : Option ObjectId → Text
-from_text None = []
-from_text (Some child) = codes " from " ++ decimal child.0
+-- the blocks in the printed order, where every rule of the protocol answers its processor at once
+abbrev pub grouped_blocks : Protocol → Tree → State → List Firing → Text
+grouped_blocks p tree start h = cond (is_one_step p) (blocks_text p (printed (entries_of p tree start h))) []
 
--- a line and an object, each with a space after it
-abbrev pub place_text : LineId → ObjectId → Text
-place_text line object = decimal line.0 ++ codes " " ++ decimal object.0 ++ codes " "
-
--- a firing: line, object, rule, and the child that it names
-abbrev pub firing_text : Protocol → Firing → Text
-firing_text p f = place_text f.line f.object ++ rule_text p f.rule ++ from_text f.me ++ codes "\n"
-
--- that the firing at place k isn't possible
-abbrev pub illegal_text : ℕ → Text
-illegal_text k = codes "illegal " ++ decimal k ++ codes "\n"
+-- a history that runs from the start to the end: the word, the blocks, and the end
+abbrev pub grouped_text : Protocol → Tree → State → List Firing → State → Text
+grouped_text p tree start h end = word_of end ++ grouped_blocks p tree start h ++ state_text p tree end

@@ -1,26 +1,26 @@
 //! The answer to the words and to a whole input.
 
-ghost use Rattle.std.specs.Prelude.{◌≡◌, ◌+◌, ◌-◌, ◌++◌, ◌∷◌, [], ◌≤◌, ◌↔◌, ◌⊎◌, List, ℕ, map, length, string_bytes, IsTrue, IfOk, codes};
+ghost use Rattle.std.specs.Prelude.{◌≡◌, ◌+◌, ◌≤◌, ◌↔◌, List, ℕ, map, length, string_bytes, IsTrue, IfOk, codes};
 ghost use Rattle.std.specs.Io.KnownBytes.{IsAtEnd};
 ghost use Rattle.hem_base.specs.Streams.{Rose, grown};
-ghost use Rattle.hem_cli.specs.Answer.{IsGood, Answer, most_bytes, IsGrouped, IsStopped};
+ghost use Rattle.hem_cli.specs.Answer.{IsGood, Answer, most_bytes, IsRepliedTo};
 ghost use Rattle.hem_cli.specs.Outcome.{Says, IsAfterReading};
 ghost use Rattle.hem_cli.specs.declared.status.Status.{Status};
-ghost use Rattle.hem_cli.specs.Document.{Document, IsOneStep, root_with};
-ghost use Rattle.hem_cli.specs.Texts.{illegal_text};
-ghost use Rattle.hem_cli.specs.BlocksText.{blocks_text};
-ghost use Rattle.hem_cli.specs.StateText.{word_of, state_text};
-ghost use Rattle.hem_cli.specs.Singles.{singles};
-ghost use Rattle.hem_cli.specs.OneFormDocument.{IsDocument};
+ghost use Rattle.hem_cli.specs.Document.{tree_in, work_in};
+ghost use Rattle.hem_cli.specs.SetUp.{IsSetUp};
 
 use crate::Status;
-use crate::cell::Cell;
 use crate::document::Document;
-use crate::output::Output;
-use crate::read::read_document;
-use crate::replaying::replay;
+use crate::fault_texts::{fault_text, setup_text};
+use crate::grouping::{grouped_text, stopped_text};
+use crate::reading::read_document;
+use crate::setting_up::set_up;
 use hem_base::{OutOfMemory, Source};
 use hem_io::{ReadEnd, read_all};
+use hem_system::{ReplayFault, replay};
+use hem_text::TextError;
+use hem_tree::{SetupError, Tree};
+use hem_work::Work;
 use std::alloc::Global;
 
 /// The most bytes of input.
@@ -58,61 +58,55 @@ fn are_good(words: &[String]) -> bool
     }
 }
 
-/// The text of a history that runs: the word, each firing as a block of its own, and the end state.
-fn grouped_text(alloc: Global, document: &Document, cells: &[Cell]) -> Result<Vec<u8>, OutOfMemory>
-    requires { 1 ≤ length cells.now }
-    ensures { IfOk result (λ text. text.items ≡ word_of (cells.now ∷ [])
-        ++ blocks_text document.now.protocol (singles 0 document.now.history)
-        ++ state_text document.now.protocol (root_with (length cells.now - 1)) (cells.now ∷ [])) }
+/// The reply of a status with a text of the program's own.
+fn reply_with(status: Status, text: String) -> Reply
+    ensures status { result.status ≡ status }
+    ensures text { result.text.items ≡ string_bytes text }
 {
-    let mut text = Output::new(alloc);
-    text.word(cells)?;
-    text.singles(&document.protocol, document.history.as_slice())?;
-    text.state(alloc, &document.protocol, cells)?;
-    Ok(text.into_bytes())
+    Reply {
+        status,
+        text: text.into_bytes(),
+    }
 }
 
-/// The text of a history with a firing that isn't possible: its place, and the state before it.
-fn stopped_text(
+/// The answer to a document whose tree and work are lawful.
+fn replayed(
     alloc: Global,
     document: &Document,
-    place: usize,
-    cells: &[Cell],
-) -> Result<Vec<u8>, OutOfMemory>
-    requires { 1 ≤ length cells.now }
-    ensures { IfOk result (λ text. text.items ≡ illegal_text place
-        ++ state_text document.now.protocol (root_with (length cells.now - 1)) (cells.now ∷ [])) }
+    tree: &Tree,
+    work: &Work,
+) -> Result<Reply, OutOfMemory>
+    requires tree { tree.now ≡ tree_in document.now }
+    requires work { work.now ≡ work_in document.now }
+    requires lawful { IsSetUp document.now }
+    ensures { IfOk result (λ r. IsRepliedTo document.now r.status r.text.items) }
 {
-    let mut text = Output::new(alloc);
-    text.illegal(place as u64)?;
-    text.state(alloc, &document.protocol, cells)?;
-    Ok(text.into_bytes())
+    let p = &document.protocol;
+    let history = document.history.as_slice();
+    match replay(alloc, p, tree, work, history) {
+        Ok(end) => {
+            let text = grouped_text(alloc, p, tree, history, &end)?;
+            Ok(reply_with(Status::Done, text))
+        }
+        Err(ReplayFault::Illegal { place, state }) => {
+            let text = stopped_text(alloc, p, tree, place, &state)?;
+            Ok(reply_with(Status::Illegal, text))
+        }
+        Err(ReplayFault::OutOfMemory) => Err(OutOfMemory),
+    }
 }
 
-/// The answer to a document of the one-step form.
-fn replayed(alloc: Global, document: &Document) -> Result<Reply, OutOfMemory>
-    requires { IsOneStep document.now }
-    ensures done { IfOk result (λ r. (bytes : List ℕ) → IsDocument bytes document.now → r.status ≡ Status.Done → IsGrouped bytes r.text.items) }
-    ensures illegal { IfOk result (λ r. (bytes : List ℕ) → IsDocument bytes document.now → r.status ≡ Status.Illegal → IsStopped bytes r.text.items) }
-    ensures either { IfOk result (λ r. (r.status ≡ Status.Done) ⊎ (r.status ≡ Status.Illegal)) }
+/// The answer to a document.
+fn grouped(alloc: Global, document: &Document) -> Result<Reply, OutOfMemory>
+    ensures { IfOk result (λ r. IsRepliedTo document.now r.status r.text.items) }
 {
-    let end = replay(alloc, document)?;
-    let cells = end.cells.as_slice();
-    match end.illegal {
-        Some(place) => {
-            let text = stopped_text(alloc, document, place, cells)?;
-            Ok(Reply {
-                status: Status::Illegal,
-                text,
-            })
+    match set_up(alloc, document) {
+        Ok((tree, work)) => replayed(alloc, document, &tree, &work),
+        Err(SetupError::Setup(fault)) => {
+            let text = setup_text(alloc, fault)?;
+            Ok(reply_with(Status::Setup, text))
         }
-        None => {
-            let text = grouped_text(alloc, document, cells)?;
-            Ok(Reply {
-                status: Status::Done,
-                text,
-            })
-        }
+        Err(SetupError::OutOfMemory) => Err(OutOfMemory),
     }
 }
 
@@ -122,9 +116,13 @@ fn group(alloc: Global, bytes: &[u8]) -> Result<Reply, OutOfMemory>
     ensures answers { IfOk result (λ r. (words : List (List ℕ)) → IsGood words → Answer words bytes.now r.status r.text.items) }
     ensures after { IfOk result (λ r. IsAfterReading r.status) }
 {
-    match read_document(alloc, bytes)? {
-        Some(document) => replayed(alloc, &document),
-        None => reply_of(alloc, Status::NotBuilt, "not built\n"),
+    match read_document(alloc, bytes) {
+        Ok(document) => grouped(alloc, &document),
+        Err(TextError::Text(fault)) => {
+            let text = fault_text(alloc, fault)?;
+            Ok(reply_with(Status::Text, text))
+        }
+        Err(TextError::OutOfMemory) => Err(OutOfMemory),
     }
 }
 

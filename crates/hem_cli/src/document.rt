@@ -1,16 +1,17 @@
-//! A document of the one-step form.
+//! A document of the job `group`.
 
-use hem_base::{Firing, List, Message};
+use hem_base::{Firing, List};
 use hem_syntax::Protocol;
+use hem_tree::RawTree;
+use hem_work::RawWork;
 use std::marker::Model;
 
-/// A document of the one-step form: a protocol whose leaves answer at once, how many leaves the root has, the
-/// requests of each leaf in order, and a history.
+/// What a document says, before its tree and its work are known to be lawful.
 #[derive(Drop)]
 pub(crate) struct Document {
     pub(crate) protocol: Protocol,
-    pub(crate) leaves: usize,
-    pub(crate) requests: List<List<Message>>,
+    pub(crate) tree: RawTree,
+    pub(crate) work: RawWork,
     pub(crate) history: List<Firing>,
 }
 
@@ -19,5 +20,5 @@ impl Model for Document {
 
     ghost Value = { Said };
 
-    ghost view = { λ d. record { protocol = d.protocol; leaves = d.leaves; requests = d.requests; history = d.history } };
+    ghost view = { λ d. record { protocol = d.protocol; tree = d.tree; work = d.work; history = d.history } };
 }

@@ -1,6 +1,8 @@
-use Rattle.hem_cli.proofs.Said.{not_built_says}
+use Rattle.hem_cli.proofs.Replies.{reply_answered, reply_after}
 use Rattle.hem_cli.proofs.answer.group.Goals as goal
 
-pub returns-in-None-clause-answers : goal.returns-in-None-clause-answers
-returns-in-None-clause-answers c =
-    not_built_says _ _ c.reply_of.result c.requires c.in_ok-document.ensures.none c.in-None.is c.reply_of.ensures.status c.reply_of.ensures.text
+pub returns-in-Ok-clause-answers : goal.returns-in-Ok-clause-answers
+returns-in-Ok-clause-answers c = reply_answered _ _ c.grouped.result c.requires c.in-Ok.ensures.ok c.grouped.ensures
+
+pub returns-in-Ok-clause-after : goal.returns-in-Ok-clause-after
+returns-in-Ok-clause-after c = reply_after _ c.grouped.result c.grouped.ensures

@@ -1,8 +1,0 @@
-use Rattle.std.proofs.Common.{◌≡◌, ◌++◌, drop}
-use Rattle.hem_cli.specs.Texts.{text_of_each}
-use Rattle.hem_cli.specs.StateText.{object_text}
-use Rattle.hem_cli.proofs.output.Output.objects.Given as goal
-
--- the text so far and the objects that are left make the whole text
-abbrev pub invariant-loop-object : goal.invariant-loop-object
-invariant-loop-object l = l.self ++ text_of_each (object_text l.p l.tree) l.object (drop l.object l.cells) ≡ l.fn.self ++ text_of_each (object_text l.p l.tree) 0 l.cells
