@@ -1,0 +1,57 @@
+//! The answer of the program to one document.
+
+use hem_cli::{Status, hem};
+use hem_io::{MemSink, MemSource, OpenGate};
+use std::alloc::Global;
+use std::process::Abort;
+use std::test::Fail;
+use std::thread::Threads;
+
+/// A document, and the answer to it.
+pub struct Row {
+    pub document: &'static str,
+    pub status: Status,
+    pub answer: &'static str,
+}
+
+/// The status of the job `group` over a document, and the sink to which it wrote.
+pub fn answer<R: Threads + Sync>(
+    rt: &R,
+    alloc: Global,
+    document: Vec<u8>,
+) -> Result<(Status, MemSink), Fail> {
+    let mut words = Vec::new(alloc);
+    words.push(String::from_str(alloc, "group")?)?;
+    let mut source = MemSource::make(document, Vec::new(alloc));
+    let mut sink = MemSink::make(alloc, 1_000_000, 1_000_000, Vec::new(alloc))?;
+    let status = hem(rt, alloc, &words, &mut source, &mut sink, &OpenGate);
+    Ok((status, sink))
+}
+
+/// Asks for the answer to a document, and compares it.
+pub fn check<R: Abort + Threads + Sync>(
+    rt: &R,
+    alloc: Global,
+    document: Vec<u8>,
+    status: Status,
+    text: &str,
+) -> Result<(), Fail> {
+    let (given, sink) = answer(rt, alloc, document)?;
+    let written = str::from_utf8(sink.bytes()).unwrap_or("no text");
+    assert_eq!(rt; written, text);
+    assert_eq!(rt; given, status);
+    Ok(())
+}
+
+/// Asks for the answer to each document of a table, and compares it.
+pub fn check_rows<R: Abort + Threads + Sync>(
+    rt: &R,
+    alloc: Global,
+    rows: &[Row],
+) -> Result<(), Fail> {
+    for row in rows {
+        let document = row.document.as_bytes().to_vec(alloc)?;
+        check(rt, alloc, document, row.status, row.answer)?;
+    }
+    Ok(())
+}

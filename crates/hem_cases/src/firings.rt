@@ -1,0 +1,201 @@
+//! Single firings: each part of a rule, at each kind of object.
+
+mod leaf;
+mod mid;
+mod root;
+mod rules;
+mod scene;
+
+use self::rules::{END, HEAD, LEAF, MID, RULES};
+use self::scene::{Change, Fires, Held, I, M, S, Scene, Sent, Stays};
+use crate::reading::protocol_of;
+use arrayvec::ArrayVec;
+use hem_base::{KidSet, Kind, Message, RuleId, Status8};
+use hem_fire::{Heads, Local, Lock, Outs, can, fire};
+use hem_syntax::{Protocol, Rule};
+use std::alloc::Global;
+use std::process::Abort;
+use std::test::Fail;
+
+/// The protocol whose rules are fired.
+fn protocol(alloc: Global) -> Result<Protocol, Fail> {
+    let mut text = Vec::new(alloc);
+    for piece in [HEAD, RULES, MID, RULES, LEAF, RULES, END] {
+        text.extend_from_slice(piece.as_bytes())?;
+    }
+    protocol_of(alloc, &text)
+}
+
+/// The rule of that name.
+fn rule_of<'a>(p: &'a Protocol, kind: Kind, name: &str) -> Result<&'a Rule, Fail> {
+    let place = p.rule_names().place(name.as_bytes()).ok_or("no such name")?;
+    let id = u32::try_from(place)?;
+    Ok(p.rule(kind, RuleId(id)).ok_or("no such rule")?)
+}
+
+fn message_of(sent: Sent) -> Message {
+    Message {
+        id: sent.0,
+        value: sent.1,
+    }
+}
+
+fn lock_of(held: Held) -> Lock {
+    Lock {
+        by: held.0,
+        request: message_of((held.1, held.2)),
+        awaited: KidSet(held.3),
+    }
+}
+
+fn local_of(scene: &Scene) -> Result<Local, Fail> {
+    let mut fields = ArrayVec::<Status8, 3>::new();
+    fields.try_extend_from_slice([scene.field].as_slice())?;
+    let mut dir = ArrayVec::<Status8, 8>::new();
+    dir.try_extend_from_slice(scene.dir)?;
+    Ok(Local {
+        fields,
+        dir,
+        val: 7,
+        up: scene.up.map(lock_of),
+        down: scene.down.map(lock_of),
+    })
+}
+
+fn heads_of(scene: &Scene) -> Heads {
+    let mut kids = ArrayVec::<Option<Message>, 8>::new();
+    for head in scene.kids {
+        if kids.len() < 8 {
+            kids.push(head.map(message_of));
+        }
+    }
+    Heads {
+        me: scene.me.map(message_of),
+        parent: scene.parent.map(message_of),
+        kids,
+    }
+}
+
+fn make(local: &mut Local, change: Change) {
+    match change {
+        Change::Field(status) => {
+            local.fields.clear();
+            local.fields.push(status);
+        }
+        Change::Value(value) => local.val = value,
+        Change::Entry(place, status) => {
+            if place < local.dir.len() {
+                local.dir[place] = status;
+            }
+        }
+        Change::Up(held) => local.up = held.map(lock_of),
+        Change::Down(held) => local.down = held.map(lock_of),
+    }
+}
+
+/// What the object is to hold after the firing.
+fn left_of(row: &Fires) -> Result<Local, Fail> {
+    let mut local = local_of(&row.2)?;
+    for change in row.3 {
+        make(&mut local, *change);
+    }
+    Ok(local)
+}
+
+/// What the firing is to take and to send.
+fn outs_of(row: &Fires) -> Outs {
+    let (taken_me, taken_parent, kids) = row.4;
+    Outs {
+        taken_me,
+        taken_parent,
+        taken_kids: KidSet(kids),
+        to: row.5,
+        message: message_of(row.6),
+    }
+}
+
+fn is_left<R: Abort>(rt: &R, name: &str, local: &Local, want: &Local) {
+    assert_eq!(rt; local.fields.as_slice(), want.fields.as_slice(), "{name}");
+    assert_eq!(rt; local.dir.as_slice(), want.dir.as_slice(), "{name}");
+    assert_eq!(rt; local.val, want.val, "{name}");
+    assert_eq!(rt; local.up, want.up, "{name}");
+    assert_eq!(rt; local.down, want.down, "{name}");
+}
+
+fn fires<R: Abort>(rt: &R, p: &Protocol, kind: Kind, row: &Fires) -> Result<(), Fail> {
+    let rule = rule_of(p, kind, row.0)?;
+    let heads = heads_of(&row.2);
+    let mut local = local_of(&row.2)?;
+    if !can(p, kind, rule, row.1, &local, &heads) {
+        return Err(row.0)?;
+    }
+    let outs = fire(p, kind, rule, row.1, &mut local, &heads);
+    assert_eq!(rt; outs, outs_of(row), "{}", row.0);
+    is_left(rt, row.0, &local, &left_of(row)?);
+    Ok(())
+}
+
+fn stays<R: Abort>(rt: &R, p: &Protocol, kind: Kind, row: &Stays) -> Result<(), Fail> {
+    let rule = rule_of(p, kind, row.0)?;
+    let heads = heads_of(&row.2);
+    let local = local_of(&row.2)?;
+    let is_possible = can(p, kind, rule, row.1, &local, &heads);
+    assert!(rt; !is_possible, "{}", row.0);
+    Ok(())
+}
+
+fn possible(kind: Kind) -> &'static [Fires] {
+    match kind {
+        Kind::Root => &root::FIRES,
+        Kind::Mid => &mid::FIRES,
+        Kind::Leaf => &leaf::FIRES,
+    }
+}
+
+fn impossible(kind: Kind) -> &'static [Stays] {
+    match kind {
+        Kind::Root => &root::STAYS,
+        Kind::Mid => &mid::STAYS,
+        Kind::Leaf => &leaf::STAYS,
+    }
+}
+
+#[test]
+fn firings_of_each_part(rt: HostRuntime) -> Result<(), Fail> {
+    let p = protocol(rt.alloc())?;
+    for kind in [Kind::Root, Kind::Mid, Kind::Leaf] {
+        for row in possible(kind) {
+            fires(&rt, &p, kind, row)?;
+        }
+        for row in impossible(kind) {
+            stays(&rt, &p, kind, row)?;
+        }
+    }
+    Ok(())
+}
+
+/// Each kind with a number of children, and what its field and its directory hold at the start.
+pub static STARTS: [(Kind, u8, Status8, &[Status8]); 4] = [
+    (Kind::Root, 3, S, &[M, M, M]),
+    (Kind::Mid, 1, S, &[I]),
+    (Kind::Mid, 8, S, &[I, I, I, I, I, I, I, I]),
+    (Kind::Leaf, 0, I, &[]),
+];
+
+fn starts() -> &'static [(Kind, u8, Status8, &'static [Status8])] {
+    &STARTS
+}
+
+#[test]
+fn starts_of_each_kind(rt: HostRuntime) -> Result<(), Fail> {
+    let p = protocol(rt.alloc())?;
+    for (kind, children, field, dir) in starts() {
+        assert!(rt; *children <= 8);
+        assert!(rt; p.part(*kind).fields.len() <= 3);
+        let local = Local::start(&p, *kind, *children);
+        assert_eq!(rt; local.fields.as_slice(), [*field].as_slice());
+        assert_eq!(rt; local.dir.as_slice(), *dir);
+        assert_eq!(rt; (local.val, local.up, local.down), (0, None, None));
+    }
+    Ok(())
+}
