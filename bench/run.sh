@@ -1,22 +1,16 @@
 #!/bin/sh
-# Measures the built program on generated documents: time and most memory at 10,000 and 100,000 requests and firings.
+# Measures the built program on generated documents: time, text and most memory of each, at its full size and at a tenth.
 cd "$(dirname -- "$0")/.." || exit 1
 ./hem >/dev/null 2>&1 </dev/null
 folder=$(mktemp -d) || exit 1
-for count in 10000 100000; do
-    python3 bench/make.py "$count" >"$folder/$count.hem"
-    echo "$count requests and firings, $(wc -c <"$folder/$count.hem") bytes:"
-    python3 - "$folder/$count.hem" <<'P'
-import resource, subprocess, sys, time
-times = []
-for _ in range(5):
-    start = time.perf_counter()
-    with open(sys.argv[1], 'rb') as document:
-        done = subprocess.run(['./crates/hem/out/hem', 'group'], stdin=document, stdout=subprocess.PIPE)
-    times.append(time.perf_counter() - start)
-assert done.returncode == 0, done.returncode
-print('  status 0, %d bytes of text, %.3f s (least of 5), %d KB of memory at most'
-      % (len(done.stdout), min(times), resource.getrusage(resource.RUSAGE_CHILDREN).ru_maxrss))
-P
-done
-rm -r "$folder"
+trap 'rm -r "$folder"' EXIT
+measure() {
+    python3 bench/make.py "$@" >"$folder/document" || exit 1
+    printf '%s: ' "$*"
+    python3 bench/measure.py "$folder/document"
+}
+for size in 10000 100000; do measure one-step "$size"; done
+for size in 100000 1000000; do measure rounds "$size"; done
+for size in 10000 100000; do measure entries "$size"; done
+measure protocol
+for size in 3300000 33000000; do measure comments "$size"; done

@@ -1,0 +1,30 @@
+#!/usr/bin/env python3
+"""Runs the built program on a document five times, and prints its least time and the most memory that it held."""
+import os
+import subprocess
+import sys
+import time
+
+PROGRAM = './crates/hem/out/hem'
+
+
+def run(path):
+    """The seconds, the most kilobytes, the status and the bytes of text of one run."""
+    start = time.perf_counter()
+    with open(path, 'rb') as document:
+        process = subprocess.Popen([PROGRAM, 'group'], stdin=document, stdout=subprocess.PIPE)
+        text = process.stdout.read()
+        _, status, usage = os.wait4(process.pid, 0)
+        process.returncode = os.waitstatus_to_exitcode(status)
+    return time.perf_counter() - start, usage.ru_maxrss, process.returncode, len(text)
+
+
+def main(path):
+    runs = [run(path) for _ in range(5)]
+    seconds = min(r[0] for r in runs)
+    memory = max(r[1] for r in runs)
+    print('%d bytes, status %d, %d bytes of text, %.3f s, %d KB'
+          % (os.path.getsize(path), runs[0][2], runs[0][3], seconds, memory))
+
+
+main(sys.argv[1])

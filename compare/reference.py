@@ -1,0 +1,536 @@
+"""A slow and plain account of the job `group`, written apart from the program.
+
+    python3 reference.py group < DOCUMENT
+
+`answer(words, data)` gives the status and the text for any words and bytes. It shares
+nothing with the program: it is there to be compared with it.
+"""
+import sys
+from collections import namedtuple
+
+from reading import Fault, Reader, place_of
+
+INPUT_LIMIT = 33554432
+OBJECT_LIMIT = 64
+CHILD_LIMIT = 8
+LEVEL_LIMIT = 8
+LINE_LIMIT = 16
+SELF_LIMIT = 1000
+REQUEST_LIMIT = 100000
+START_LIMIT = 200000
+
+REQUEST_CLASSES = ('ext_req', 'up_req', 'down_req')
+
+
+# The setup
+
+def check_tree(nodes):
+    """Raises the first fault of the tree."""
+    children = {}
+    for place, node in enumerate(nodes):
+        if place >= OBJECT_LIMIT:
+            raise Fault('setup', node.start, 'objects')
+        children[node.parent] = children.get(node.parent, 0) + 1
+        if children[node.parent] > CHILD_LIMIT:
+            raise Fault('setup', node.start, 'children')
+        if node.level > LEVEL_LIMIT:
+            raise Fault('setup', node.start, 'levels')
+
+
+def check_work(work, protocol, nodes):
+    """Raises the first fault of the work, for a lawful tree."""
+    if not 1 <= work.lines <= LINE_LIMIT:
+        raise Fault('setup', work.lines_start, 'lines')
+    if work.self_count > SELF_LIMIT:
+        raise Fault('setup', work.self_start, 'self')
+    count = 0
+    for where, where_start, line, line_start, requests in work.entries:
+        if where >= len(nodes) or nodes[where].kind != 'leaf':
+            raise Fault('setup', where_start, 'object')
+        if line >= work.lines:
+            raise Fault('setup', line_start, 'line')
+        for message, _, start in requests:
+            if protocol.messages[message] != 'ext_req':
+                raise Fault('setup', start, 'request')
+            count += 1
+            if count > REQUEST_LIMIT:
+                raise Fault('setup', start, 'requests')
+    if count + work.self_count * len(nodes) * work.lines > START_LIMIT:
+        raise Fault('setup', work.start, 'starts')
+
+
+# States
+
+Message = namedtuple('Message', 'id value number')
+Lock = namedtuple('Lock', 'origin id value awaited')
+LANES = ('uprq', 'uprs', 'down', 'req', 'ans')
+
+
+class Object:
+    """One object on one line: its own state and the lists that end at it or go up from it."""
+
+    def __init__(self, protocol, nodes, place):
+        self.kind = nodes[place].kind
+        self.parent = nodes[place].parent
+        self.children = [k for k, node in enumerate(nodes) if node.parent == place]
+        part = protocol.kinds[self.kind]
+        self.fields = dict(part.fields)
+        self.dir = {child: part.dir for child in self.children}
+        self.val = 0
+        self.up = self.down = None
+        self.lists = {lane: [] for lane in LANES}
+
+
+def start_state(protocol, nodes, work):
+    """For each line the objects at the start."""
+    state = [[Object(protocol, nodes, k) for k in range(len(nodes))] for _ in range(work.lines)]
+    for where, _, line, _, requests in work.entries:
+        state[line][where].lists['req'] += [Message(name, value, None) for name, value, _ in requests]
+    return state
+
+
+class View:
+    """What a firing at one object can name; what doesn't exist is None."""
+
+    def __init__(self, objects, here, rule, me):
+        side, taken_id = rule.take
+        self.here, self.taken, self.queues = here, [], []
+        self.requester = self.msg = self.kept = self.rs = self.targets = None
+        if side == 'me':
+            self.requester = 'cpu' if here.kind == 'leaf' else me
+            self.queues = [here.lists['req'] if here.kind == 'leaf' else objects[me].lists['uprq']]
+        elif side == 'parent':
+            self.kept = here.up
+            if here.up is not None and (here.up.origin == 'cpu' or isinstance(here.up.origin, int)):
+                self.requester = here.up.origin
+            self.queues = [here.lists['down']]
+        elif side == 'kids' and here.down is not None:
+            self.kept = here.down
+            if isinstance(here.down.origin, int):
+                self.requester = here.down.origin
+            self.targets = here.down.awaited
+            self.queues = [objects[child].lists['uprs'] for child in here.down.awaited]
+        self.there = side == 'none' or bool(self.queues)
+        for queue in self.queues:
+            if not queue or queue[0].id != taken_id:
+                self.there = False
+            else:
+                self.taken.append(queue[0])
+        if self.there and side in ('me', 'parent'):
+            self.msg = self.taken[0].value
+        if self.there and side == 'kids':
+            self.rs = self.taken[0].value
+
+    def others(self):
+        return [child for child in self.here.children if child != self.requester]
+
+    def value(self, name):
+        if name == '0':
+            return 0
+        if name == 'val':
+            return self.here.val
+        if name == 'kept':
+            return None if self.kept is None else self.kept.value
+        return self.msg if name == 'msg' else self.rs
+
+
+def need_holds(need, lock):
+    """Whether a need on a lock holds."""
+    if need == 'any':
+        return True
+    if lock is None:
+        return need == 'free'
+    if need == 'child':
+        return lock.origin == 'cpu' or isinstance(lock.origin, int)
+    return need == lock.origin
+
+
+def atom_holds(atom, view):
+    """Whether all that an atom names exists and it holds."""
+    name, more, chosen = atom
+    here = view.here
+    if name == 'field':
+        return here.fields[more] in chosen
+    if name == 'asked':
+        return view.kept is not None and view.kept.id == chosen
+    if name == 'me':
+        return view.requester in here.dir and here.dir[view.requester] in chosen
+    if name == 'others' and view.requester is None:
+        return False
+    among = here.children if name == 'kids' else view.others()
+    tests = [here.dir[child] in chosen for child in among]
+    return all(tests) if more == 'all' else any(tests)
+
+
+def new_values(rule, view):
+    """The field, value and directory changes of the sets, or None where a name doesn't exist."""
+    fields, entries, val = {}, {}, None
+    for place, what in rule.sets:
+        if place == 'val':
+            val = view.value(what)
+            if val is None:
+                return None
+        elif place == 'targets':
+            if view.targets is None:
+                return None
+        elif place == 'me':
+            if view.requester not in view.here.dir:
+                return None
+        else:
+            fields[place] = what
+    sets = dict(rule.sets)
+    if 'targets' in sets:
+        entries.update({child: sets['targets'] for child in view.targets})
+    if 'me' in sets:
+        entries[view.requester] = sets['me']
+    return fields, entries, val
+
+
+def destination(protocol, rule, view, objects):
+    """The lists to which a rule sends and the children among them, or None where there is no such place."""
+    to, chosen, message, _ = rule.send
+    here = view.here
+    if to == 'me':
+        if view.requester is None:
+            return None
+        own = view.requester == 'cpu'
+        return [here.lists['ans'] if own else objects[view.requester].lists['down']], []
+    if to == 'parent':
+        if here.parent is None:
+            return None
+        return [here.lists['uprs' if protocol.messages[message] == 'up_rsp' else 'uprq']], []
+    among = here.children if to == 'kids' else view.others()
+    if to == 'others' and view.requester is None:
+        return None
+    targets = [child for child in among if here.dir[child] in chosen]
+    if not targets:
+        return None
+    return [objects[child].lists['down'] for child in targets], targets
+
+
+def in_hand(protocol, rule, view, sent):
+    """The request that a lock of the rule keeps, or None."""
+    side = rule.take[0]
+    if side in ('me', 'parent') and protocol.messages[view.taken[0].id] in REQUEST_CLASSES:
+        return view.taken[0].id, view.taken[0].value
+    if side in ('parent', 'kids'):
+        return None if view.kept is None else (view.kept.id, view.kept.value)
+    return sent if side == 'none' else None
+
+
+class Plan:
+    """All that a possible firing does."""
+
+    def __init__(self):
+        self.queues, self.taken, self.changes, self.free, self.lock = [], [], None, None, None
+        self.goals, self.sent, self.starts = [], None, False
+
+
+def plan(protocol, state, firing):
+    """What a firing does in a state, or None where it isn't possible there."""
+    if firing.line >= len(state) or firing.object >= len(state[firing.line]):
+        return None
+    objects = state[firing.line]
+    here = objects[firing.object]
+    rule = protocol.kinds[here.kind].rules.get(firing.rule)
+    if rule is None:
+        return None
+    if rule.take[0] == 'me' and here.kind != 'leaf':
+        if firing.me not in here.children:
+            return None
+    elif firing.me is not None:
+        return None
+    view = View(objects, here, rule, firing.me)
+    if not view.there or not need_holds(rule.up, here.up) or not need_holds(rule.down, here.down):
+        return None
+    if not all(atom_holds(atom, view) for atom in rule.guard):
+        return None
+    result = Plan()
+    result.changes = new_values(rule, view)
+    if result.changes is None:
+        return None
+    targets = []
+    if rule.send is not None:
+        goals = destination(protocol, rule, view, objects)
+        value = view.value(rule.send[3])
+        if goals is None or value is None:
+            return None
+        result.goals, targets = goals
+        result.sent = (rule.send[2], value)
+    if rule.lock is not None:
+        side, origin = rule.lock
+        held = view.requester if origin == 'child' else origin
+        request = in_hand(protocol, rule, view, result.sent)
+        if held is None or request is None:
+            return None
+        result.lock = side, Lock(held, request[0], request[1], targets if side == 'down' else [])
+    result.free = rule.free
+    result.queues, result.taken = view.queues, view.taken
+    result.starts = rule.take[0] == 'none' or (rule.take[0] == 'me' and here.kind == 'leaf')
+    return result
+
+
+def fire(state, firing, steps, place):
+    """Makes a possible firing and answers the number of its transaction."""
+    here = state[firing.line][firing.object]
+    transaction = place if steps.starts else steps.taken[0].number
+    for queue in steps.queues:
+        queue.pop(0)
+    fields, entries, val = steps.changes
+    here.fields.update(fields)
+    here.dir.update(entries)
+    if val is not None:
+        here.val = val
+    if steps.free == 'up':
+        here.up = None
+    if steps.free == 'down':
+        here.down = None
+    if steps.lock is not None and steps.lock[0] == 'up':
+        here.up = steps.lock[1]
+    if steps.lock is not None and steps.lock[0] == 'down':
+        here.down = steps.lock[1]
+    for goal in steps.goals:
+        goal.append(Message(steps.sent[0], steps.sent[1], transaction))
+    return transaction
+
+
+def quiet(state):
+    """Whether only answers are left and no lock is held."""
+    for objects in state:
+        for here in objects:
+            if here.up is not None or here.down is not None:
+                return False
+            if any(here.lists[lane] for lane in LANES if lane != 'ans'):
+                return False
+    return True
+
+
+# Templates and the printed order
+
+FORMS = {
+    # take, free, lock, send: name, need on the uplock, need on the downlock, whether it may set
+    ('none', None, None, None): ('imm_self', 'free', 'free', True),
+    ('me request', None, None, 'me response'): ('imm_down', 'free', 'free', True),
+    ('parent request', None, None, 'parent response'): ('imm_up', 'any', 'free', True),
+    ('me request', None, 'up child', 'parent request'): ('rq_up', 'free', 'free', False),
+    ('none', None, 'up self', 'parent request'): ('rq_up_self', 'free', 'free', False),
+    ('me request', None, 'down child', 'others request'): ('rq_up_down', 'free', 'free', False),
+    ('none', None, 'down self', 'kids request'): ('rq_down_self', 'free', 'free', False),
+    ('parent request', None, 'down parent', 'kids request'): ('rq_down_down', 'any', 'free', False),
+    ('parent response', 'up', None, 'me response'): ('rs_down', 'child', 'free', True),
+    ('parent response', 'up', None, None): ('rs_down_self', 'self', 'free', True),
+    ('parent response', 'up', 'down child', 'others request'): ('rs_down_rq_down', 'child', 'free', True),
+    ('kids response', 'down', None, 'me response'): ('rs_up_down', 'any', 'child', True),
+    ('kids response', 'down', None, 'parent response'): ('rs_up_up', 'any', 'parent', True),
+    ('kids response', 'down', None, None): ('rs_up_self', 'any', 'self', True),
+}
+
+NARROW = ('rq_up', 'rq_up_self', 'imm_up', 'rq_down_down', 'rs_up_up')
+
+
+def classes_fit(kind, taken, taken_class, to, sent_class):
+    """Whether the classes of the messages are those of their directions."""
+    takes = {'none': (None,), 'me': ('ext_req',) if kind == 'leaf' else ('up_req',),
+             'parent': ('down_req', 'down_rsp'), 'kids': ('up_rsp',)}
+    sends = {None: (None,), 'me': ('ext_rsp',) if kind == 'leaf' else ('down_rsp',),
+             'parent': ('up_req', 'up_rsp'), 'kids': ('down_req',), 'others': ('down_req',)}
+    return taken_class in takes[taken] and sent_class in sends[to]
+
+
+def names_fit(protocol, kind, rule, up, down, response):
+    """Whether every name of the rule has a meaning wherever the rule may fire."""
+    taken = rule.take[0]
+    atoms = {name for name, _, _ in rule.guard}
+    places = {place for place, _ in rule.sets}
+    values = {what for place, what in rule.sets if place == 'val'} | ({rule.send[3]} if rule.send else set())
+    if atoms & {'me', 'others'} or 'me' in places:
+        if kind == 'leaf' or not (taken == 'me' or 'child' in (up, down)):
+            return False
+    if 'kids' in atoms and kind == 'leaf':
+        return False
+    kept = taken == 'kids' or (taken == 'parent' and response)
+    if ('asked' in atoms or 'kept' in values) and not kept:
+        return False
+    if any(name == 'asked' and protocol.messages[chosen] not in REQUEST_CLASSES for name, _, chosen in rule.guard):
+        return False
+    if 'msg' in values and taken not in ('me', 'parent'):
+        return False
+    return taken == 'kids' or not ('rs' in values or 'targets' in places)
+
+
+def template(protocol, kind, rule):
+    """The template of a rule, or None where it has none."""
+    taken, taken_id = rule.take
+    to = rule.send[0] if rule.send else None
+    taken_class = protocol.messages[taken_id] if taken_id is not None else None
+    sent_class = protocol.messages[rule.send[2]] if rule.send else None
+    if kind == 'root' and 'parent' in (taken, to):
+        return None
+    if kind == 'leaf' and (taken == 'kids' or to in ('kids', 'others')):
+        return None
+    if not classes_fit(kind, taken, taken_class, to, sent_class):
+        return None
+
+    def form_of(side, message_class):
+        if message_class is None:
+            return side
+        return side + (' request' if message_class.endswith('req') else ' response')
+
+    lock = ' '.join(rule.lock) if rule.lock else None
+    found = FORMS.get((form_of(taken, taken_class), rule.free, lock, form_of(to, sent_class)))
+    if found is None:
+        return None
+    name, up, down, may_set = found
+    if (rule.up, rule.down) != (up, down) or (rule.sets and not may_set):
+        return None
+    if name in NARROW and any(atom[0] in ('me', 'others') for atom in rule.guard):
+        return None
+    response = taken_class is not None and taken_class.endswith('rsp')
+    return name if names_fit(protocol, kind, rule, up, down, response) else None
+
+
+def is_one_step(protocol):
+    """Whether every rule is a leaf's rule of the template imm_down."""
+    return all(kind == 'leaf' and template(protocol, kind, rule) == 'imm_down'
+               for kind, part in protocol.kinds.items() for rule in part.rules.values())
+
+
+def normal_order(protocol, nodes, history, numbers):
+    """The places of the history in normal order."""
+    upward = []
+    for firing in history:
+        kind = nodes[firing.object].kind
+        name = template(protocol, kind, protocol.kinds[kind].rules[firing.rule])
+        upward.append(name in ('rq_up', 'rq_up_self'))
+    anchors = {}
+    for t in set(numbers):
+        places = [i for i, other in enumerate(numbers) if other == t]
+        top = min((nodes[history[i].object].level, history[i].object) for i in places)[1]
+        anchors[t] = next(i for i in places if history[i].object == top)
+    moved = {}
+    for i, t in enumerate(numbers):
+        if upward[i] and i < anchors[t]:
+            moved.setdefault(anchors[t], []).append(i)
+    late = {i for places in moved.values() for i in places}
+    order = []
+    for i in range(len(history)):
+        if i not in late:
+            order += moved.get(i, []) + [i]
+    return order
+
+
+def printed_order(protocol, nodes, history, numbers):
+    """The blocks, each a number with its firings."""
+    order = normal_order(protocol, nodes, history, numbers)
+    before = {t: set() for t in numbers}
+    seen = {}
+    for i in order:
+        earlier = seen.setdefault((history[i].line, history[i].object), [])
+        before[numbers[i]].update(t for t in earlier if t != numbers[i])
+        earlier.append(numbers[i])
+    left, blocks = set(numbers), []
+    while True:
+        ready = [t for t in left if not before[t] & left]
+        if not ready:
+            return blocks
+        t = min(ready)
+        left.remove(t)
+        blocks.append((t, [history[i] for i in order if numbers[i] == t]))
+
+
+# Texts
+
+def firing_text(firing):
+    text = '%d %d %s' % (firing.line, firing.object, firing.rule)
+    return text if firing.me is None else text + ' from %d' % firing.me
+
+
+def lock_text(lock, is_down):
+    if lock is None:
+        return 'free'
+    text = '%s:%s:%d' % (lock.origin, lock.id, lock.value)
+    return text + ':' + ','.join(str(child) for child in lock.awaited) if is_down else text
+
+
+def object_lines(place, here):
+    line = '%d %s' % (place, here.kind)
+    line += ''.join(' %s=%s' % pair for pair in here.fields.items())
+    line += ' val=%d up=%s down=%s' % (here.val, lock_text(here.up, False), lock_text(here.down, True))
+    if here.kind != 'leaf':
+        line += ' dir=' + ','.join(here.dir[child] for child in here.children)
+    lines = [line]
+    for lane in LANES:
+        if here.lists[lane]:
+            items = ''.join(' %s:%d' % (item.id, item.value) for item in here.lists[lane])
+            lines.append('%s %d%s' % (lane, place, items))
+    return lines
+
+
+def state_lines(state):
+    lines = ['state']
+    for number_of_line, objects in enumerate(state):
+        lines.append('line %d' % number_of_line)
+        for place, here in enumerate(objects):
+            lines += object_lines(place, here)
+    return lines + ['end']
+
+
+def block_lines(blocks):
+    lines = ['blocks %d' % len(blocks)]
+    for t, firings in blocks:
+        lines.append('block %d' % t)
+        lines += [firing_text(firing) for firing in firings]
+    return lines
+
+
+# The whole answer
+
+def replay(protocol, state, history):
+    """Makes the firings in order; answers their transactions and the place of the first that isn't possible."""
+    numbers = []
+    for place, firing in enumerate(history):
+        steps = plan(protocol, state, firing)
+        if steps is None:
+            return numbers, place
+        numbers.append(fire(state, firing, steps, place))
+    return numbers, None
+
+
+def group(text):
+    """The status and the lines for the text of a document."""
+    try:
+        protocol, nodes, work, history = Reader(text).document()
+        check_tree(nodes)
+        check_work(work, protocol, nodes)
+    except Fault as fault:
+        line, column = place_of(text, fault.start)
+        return 5 if fault.job == 'text' else 7, ['%s %d:%d %s' % (fault.job, line, column, fault.cause)]
+    state = start_state(protocol, nodes, work)
+    numbers, illegal = replay(protocol, state, history)
+    if illegal is not None:
+        return 8, ['illegal %d' % illegal] + state_lines(state)
+    lines = ['quiet' if quiet(state) else 'open']
+    if is_one_step(protocol):
+        lines += block_lines(printed_order(protocol, nodes, history, numbers))
+    return 0, lines + state_lines(state)
+
+
+def answer(words_given, data):
+    """The status and the text for the words after the program's name and the bytes of its input."""
+    if words_given != ['group']:
+        return 1, 'usage: hem JOB [--json] [--count N] [--seed N]\n'
+    if len(data) > INPUT_LIMIT:
+        return 4, 'too long\n'
+    status, lines = group(data.decode('latin-1'))
+    return status, '\n'.join(lines) + '\n'
+
+
+def main():
+    status, text = answer(sys.argv[1:], sys.stdin.buffer.read() if sys.argv[1:] == ['group'] else b'')
+    sys.stdout.write(text)
+    sys.stdout.flush()
+    sys.exit(status)
+
+
+if __name__ == '__main__':
+    main()

@@ -1,0 +1,133 @@
+"""Compares a built program with the reference on very many documents.
+
+    python3 run.py PROGRAM [--seed N] [--count N] [--kind KIND] [--keep DIRECTORY]
+
+Two workers share the documents. Each difference is told, and its document kept in a file.
+"""
+import argparse
+import collections
+import itertools
+import multiprocessing
+import os
+import sys
+import tempfile
+import time
+
+import make
+import reference
+import texts
+
+WORKERS = 2
+KEPT_OF_A_KIND = 20
+
+
+class Program:
+    """Runs the program over documents that stand in a file."""
+
+    def __init__(self, path):
+        self.path = path
+        self.input = tempfile.TemporaryFile()
+        self.output = tempfile.TemporaryFile()
+
+    def answer(self, words, document):
+        self.input.seek(0)
+        self.input.truncate()
+        self.input.write(document)
+        self.input.seek(0)
+        self.output.seek(0)
+        self.output.truncate()
+        actions = [(os.POSIX_SPAWN_DUP2, self.input.fileno(), 0), (os.POSIX_SPAWN_DUP2, self.output.fileno(), 1)]
+        child = os.posix_spawn(self.path, [self.path] + words, {}, file_actions=actions)
+        _, status = os.waitpid(child, 0)
+        self.output.seek(0)
+        return os.waitstatus_to_exitcode(status), self.output.read()
+
+
+def part_of(kind, seed, count, worker):
+    """A worker's documents of a kind: of a fixed kind every second one, else its own."""
+    share = next(share for name, _, share in make.KINDS if name == kind)
+    if share is None:
+        return itertools.islice(make.documents(kind, seed, 0), worker, None, WORKERS)
+    return make.documents(kind, seed * WORKERS + worker, int(share * count / WORKERS))
+
+
+def label(status, text):
+    """A status, and with a fault its cause."""
+    cause = text.rstrip('\n').split(' ', 2)[2:] if status in (5, 7) else []
+    return ' '.join(['status %d' % status] + cause)
+
+
+def compare(task):
+    """One worker's documents of one kind: their number, their statuses, and the differences."""
+    path, keep, kind, seed, count, worker = task
+    program = Program(path)
+    statuses, differences, told, made = collections.Counter(), 0, [], 0
+    begun = time.time()
+    for document in part_of(kind, seed, count, worker):
+        made += 1
+        expected, text = reference.answer(['group'], document)
+        got, output = program.answer(['group'], document)
+        statuses[label(expected, text)] += 1
+        if (got, output) != (expected, text.encode('latin-1')):
+            differences += 1
+            if len(told) < KEPT_OF_A_KIND:
+                told.append(kept(keep, kind, seed, worker, made, document, (expected, text), (got, output)))
+    return kind, made, statuses, differences, told, time.time() - begun
+
+
+def kept(keep, kind, seed, worker, place, document, expected, got):
+    """Writes a document and both answers to files, and answers what to tell."""
+    os.makedirs(keep, exist_ok=True)
+    name = os.path.join(keep, '%s-%d-%d-%d' % (kind, seed, worker, place))
+    with open(name, 'wb') as file:
+        file.write(document)
+    with open(name + '.answers', 'wb') as file:
+        file.write(b'expected %d\n%s\ngot %d\n%s' % (expected[0], expected[1].encode('latin-1'), got[0], got[1]))
+    first = expected[1].encode('latin-1').split(b'\n')[0]
+    return '%s: expected %d %r, got %d %r' % (name, expected[0], first[:80], got[0], got[1].split(b'\n')[0][:80])
+
+
+def words_differ(path):
+    """The differences on words that aren't the job."""
+    program, wrong = Program(path), []
+    lists = [[], ['group', 'group'], ['frob'], ['--json'], ['group', '--json'], ['check'], ['run'], ['walk'], ['emit'],
+             ['play'], ['make'], ['group', '--seed', '1'], ['group', ''], [''], ['Group'], ['group '], ['--', 'group'],
+             ['watch'], ['mux'], ['migrate'], ['--help'], ['-h'], ['--version']]
+    for words in lists:
+        expected, text = reference.answer(words, b'')
+        if program.answer(words, texts.data(texts.SMALL)) != (expected, text.encode()):
+            wrong.append(words)
+    return len(lists), wrong
+
+
+def main():
+    parser = argparse.ArgumentParser()
+    parser.add_argument('program')
+    parser.add_argument('--seed', type=int, default=1)
+    parser.add_argument('--count', type=int, default=100000)
+    parser.add_argument('--kind', choices=[name for name, _, _ in make.KINDS], help='only this kind')
+    parser.add_argument('--keep', help='the directory for the documents that differ')
+    args = parser.parse_args()
+    keep = args.keep or os.path.join(tempfile.gettempdir(), 'hem-differences')
+    path = os.path.abspath(args.program)
+    number, wrong = words_differ(path)
+    print('words: %d lists, %d differences %s' % (number, len(wrong), wrong or ''))
+    kinds = [args.kind] if args.kind else [name for name, _, _ in make.KINDS]
+    tasks = [(path, keep, kind, args.seed, args.count, worker) for kind in kinds for worker in range(WORKERS)]
+    total, bad = 0, len(wrong)
+    with multiprocessing.Pool(WORKERS) as pool:
+        for kind, made, statuses, differences, told, seconds in pool.imap(compare, tasks, chunksize=1):
+            if made:
+                table = ', '.join('%s: %d' % pair for pair in sorted(statuses.items()))
+                print('%-9s %6d documents, %d differences, %.0f s (%s)' % (kind, made, differences, seconds, table))
+                for line in told:
+                    print('  ' + line)
+                sys.stdout.flush()
+            total += made
+            bad += differences
+    print('%d documents, %d differences' % (total, bad))
+    sys.exit(1 if bad else 0)
+
+
+if __name__ == '__main__':
+    main()
