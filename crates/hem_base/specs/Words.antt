@@ -1,11 +1,8 @@
 -- Reserved words and signs of documents.
-use Rattle.std.specs.Prelude.{ℕ, ◌&&◌, Bool, false, not, List, [], ◌∷◌, codes}
+use Rattle.std.specs.Prelude.{ℕ, ◌==◌, ◌&&◌, ◌||◌, Bool, false, List, [], ◌∷◌, codes}
 use Rattle.std.specs.List.{list_any, list_all}
-use Rattle.std.specs.Char.{is_ascii_alphabetic}
+use Rattle.std.specs.Char.{is_ascii_alphabetic, is_ascii_digit}
 use Rattle.std.specs.Str.{bytes_eq}
-use Rattle.hem_base.specs.declared.text.TokenKind.{TokenKind}
-use Rattle.hem_base.specs.declared.text.TokenKind.TheVariants.{Word}
-use Rattle.hem_base.specs.Tokens.{is_word_byte}
 use Rattle.hem_base.specs.declared.words.Reserved.{Reserved}
 use Rattle.hem_base.specs.declared.words.Reserved.TheVariants as word
 use Rattle.hem_base.specs.declared.words.Sign.{Sign}
@@ -86,15 +83,14 @@ words = word.Protocol ∷ word.Use ∷ word.Status ∷ word.Message ∷ word.Kin
 abbrev pub is_reserved : List ℕ → Bool
 is_reserved text = list_any (λ w. bytes_eq (word_bytes w) text) words
 
+-- the bytes of words and numbers: letters, digits and _
+abbrev pub is_word_byte : ℕ → Bool
+is_word_byte b = is_ascii_alphabetic b || is_ascii_digit b || b == 95
+
 -- letters, digits and _, of which the first is a letter
 abbrev pub is_word_text : List ℕ → Bool
 is_word_text [] = false
 is_word_text (b ∷ bs) = is_ascii_alphabetic b && list_all is_word_byte bs
-
--- a word that isn't reserved
-abbrev pub is_name : TokenKind → List ℕ → Bool
-is_name Word text = is_word_text text && not (is_reserved text)
-is_name _ text = false
 
 -- how a sign is spelled
 abbrev pub sign_bytes : Sign → List ℕ

@@ -1,17 +1,12 @@
-//! What every other crate speaks of: ids, messages, firings, names, lists, places and tokens of texts, the symbols
-//! of grammars, and the traits of the outside.
+//! What every other crate speaks of: ids, messages, firings, names, lists, reserved words, and the traits of the outside.
 #![tactic(auto)]
 
-mod grammar;
 mod ids;
 mod list;
 mod name;
 mod outside;
-mod setup;
-mod text;
 mod words;
 
-pub use grammar::{Stands, Symbol};
 pub use ids::{
     Carried, Firing, KidSet, Kind, LineId, Message, MsgId, ObjectId, RuleId, Stamped, Status8,
     StatusSet,
@@ -19,6 +14,4 @@ pub use ids::{
 pub use list::List;
 pub use name::Name;
 pub use outside::{Failed, Gate, OutOfMemory, Sink, Source};
-pub use setup::{Setup, SetupCause};
-pub use text::{Cause, Piece, Place, Token, TokenKind};
-pub use words::{Reserved, Sign, is_name, is_reserved, sign_bytes, word_bytes};
+pub use words::{Reserved, Sign, is_reserved, is_word_text, sign_bytes, word_bytes};

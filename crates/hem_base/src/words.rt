@@ -2,10 +2,7 @@
 
 ghost use Rattle.std.specs.Prelude.{◌≡◌};
 ghost use Rattle.std.specs.List.{list_all};
-ghost use Rattle.hem_base.specs.Tokens.{is_word_byte};
-ghost use Rattle.hem_base.specs.Words.{word_bytes, sign_bytes, is_reserved, is_word_text, is_name};
-
-use crate::text::TokenKind;
+ghost use Rattle.hem_base.specs.Words.{word_bytes, sign_bytes, is_reserved, is_word_byte, is_word_text};
 
 /// The reserved words of documents. `Own` is the word `self`.
 #[derive(Clone, Copy, Debug, PartialEq, Eq)]
@@ -262,21 +259,11 @@ fn all_word_bytes(bytes: &[u8]) -> bool
 }
 
 /// Whether bytes are letters, digits and `_`, of which the first is a letter.
-fn is_word_text(text: &[u8]) -> bool
+pub fn is_word_text(text: &[u8]) -> bool
     ensures { result ≡ is_word_text text.now }
 {
     match text {
         [] => false,
         [first, rest @ ..] => first.is_ascii_alphabetic() && all_word_bytes(rest),
-    }
-}
-
-/// Whether a token is a word that isn't reserved.
-pub fn is_name(kind: TokenKind, text: &[u8]) -> bool
-    ensures { result ≡ is_name kind text.now }
-{
-    match kind {
-        TokenKind::Word => is_word_text(text) && !is_reserved(text),
-        _ => false,
     }
 }

@@ -1,9 +1,9 @@
 -- Bytes are at most one document, or have one first fault, and never both.
 use Rattle.std.proofs.Common.{◌≡◌, ◌∙◌, refl, sym, ap, arith, ℕ, ◌+◌, ◌-◌, ◌≤◌, List, length}
 use Rattle.hem_base.specs.declared.ids.Firing.{Firing}
-use Rattle.hem_base.specs.declared.text.Token.{Token}
-use Rattle.hem_base.specs.Tokens.{tokens_of}
-use Rattle.hem_base.specs.Machine.{Grammar, State, state}
+use Rattle.hem_text.specs.declared.text.Token.{Token}
+use Rattle.hem_text.specs.Tokens.{tokens_of}
+use Rattle.hem_text.specs.Grammars.{Grammar, State, state}
 use Rattle.hem_text.specs.declared.reader.TextFault.{TextFault}
 use Rattle.hem_text.specs.declared.reader.TextError.TheVariants.{Text}
 use Rattle.hem_text.specs.Faults.{IsFirstFault, place_of}
@@ -12,7 +12,7 @@ use Rattle.hem_tree.specs.declared.draft.TreeDraft.{TreeDraft}
 use Rattle.hem_tree.specs.Grammar as tree
 use Rattle.hem_work.specs.Reading.{raw_of}
 use Rattle.hem_work.specs.Grammar as work
-use Rattle.hem_trace.specs.Grammar as history
+use Rattle.hem_history.specs.Grammar as history
 use Rattle.hem_parser.specs.Reading.{IsFirstProtocolFault}
 use Rattle.hem_cli.specs.Document.{Document, IsDocument, IsProtocolAt, IsTreeAt, IsWorkAt, IsHistoryAt}
 use Rattle.hem_cli.specs.Faults.{IsTooLong, IsHistoryFault, IsWorkFault, IsTreeFault, IsDocumentFault}

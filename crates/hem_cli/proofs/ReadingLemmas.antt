@@ -2,10 +2,10 @@
 use Rattle.std.proofs.Common.{◌≡◌, ◌∙◌, sym, ap, subst, arith, ℕ, ◌<◌, ◌≤◌, List, length, Some, inl, inr}
 use Rattle.std.specs.Prelude.{slice_get}
 use Rattle.hem_base.specs.declared.ids.Firing.{Firing}
-use Rattle.hem_base.specs.declared.text.Token.{Token}
-use Rattle.hem_base.specs.declared.text.Cause.TheVariants.{Expected}
-use Rattle.hem_base.specs.Tokens.{tokens_of}
-use Rattle.hem_base.specs.Machine.{state}
+use Rattle.hem_text.specs.declared.text.Token.{Token}
+use Rattle.hem_text.specs.declared.text.Cause.TheVariants.{Expected}
+use Rattle.hem_text.specs.Tokens.{tokens_of}
+use Rattle.hem_text.specs.Grammars.{state}
 use Rattle.hem_text.specs.declared.reader.TextFault.{TextFault}
 use Rattle.hem_text.specs.declared.reader.TextError.{TextError}
 use Rattle.hem_text.specs.declared.reader.TextError.TheVariants.{Text, OutOfMemory}
@@ -18,8 +18,8 @@ use Rattle.hem_tree.specs.Reading.{ReadsTree}
 use Rattle.hem_work.specs.declared.raw.RawWork.{RawWork}
 use Rattle.hem_work.specs.Grammar as work
 use Rattle.hem_work.specs.Reading.{ReadsWork}
-use Rattle.hem_trace.specs.Grammar as history
-use Rattle.hem_trace.specs.Reading.{ReadsHistory}
+use Rattle.hem_history.specs.Grammar as history
+use Rattle.hem_history.specs.Reading.{ReadsHistory}
 use Rattle.hem_parser.specs.Reading.{ReadsProtocol, IsFirstProtocolFault}
 use Rattle.hem_cli.specs.Document.{IsDocument}
 use Rattle.hem_cli.specs.Faults.{IsTooLong, IsHistoryFault, IsWorkFault, IsTreeFault, IsDocumentFault, OfFault}

@@ -2,7 +2,7 @@
 use Rattle.std.proofs.Common.{◌≡◌, ◌∙◌, sym, subst, ℕ, ◌≤◌, List, ◌++◌, length}
 use Rattle.std.specs.Prelude.{Result, Ok, Err, IfOk}
 use Rattle.hem_base.specs.declared.outside.OutOfMemory.{OutOfMemory}
-use Rattle.hem_base.specs.declared.setup.Setup.{Setup as Fault}
+use Rattle.hem_tree.specs.declared.setup.SetupFault.{SetupFault as Fault}
 use Rattle.hem_text.specs.declared.reader.TextFault.{TextFault}
 use Rattle.hem_tree.specs.Tree.{Tree}
 use Rattle.hem_work.specs.Work.{Work}

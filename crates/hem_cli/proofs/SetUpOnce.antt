@@ -1,8 +1,8 @@
 -- A document has one first broken rule at most, and none where its tree and work are lawful.
 use Rattle.std.proofs.Common.{◌≡◌, ◌∙◌, sym, ap, subst, arith, ℕ, ◌<◌, List, Option, Some, None, inl, inr}
 use Rattle.std.specs.Prelude.{slice_get}
-use Rattle.hem_base.specs.declared.setup.Setup.{Setup as Fault}
-use Rattle.hem_base.specs.declared.setup.SetupCause.{SetupCause}
+use Rattle.hem_tree.specs.declared.setup.SetupFault.{SetupFault as Fault}
+use Rattle.hem_tree.specs.declared.setup.SetupCause.{SetupCause}
 use Rattle.hem_tree.specs.declared.raw.RawNode.{RawNode}
 use Rattle.hem_tree.specs.Tree.{Tree}
 use Rattle.hem_tree.specs.Limits.{IsTreeFault, IsFirstPassed, passed_at}

@@ -1,7 +1,7 @@
 -- A document of the job group: a protocol, a tree, a work and a history, one after another, and then the end.
 use Rattle.std.specs.Prelude.{ℕ, List, length}
 use Rattle.hem_base.specs.declared.ids.Firing.{Firing}
-use Rattle.hem_base.specs.Tokens.{tokens_of}
+use Rattle.hem_text.specs.Tokens.{tokens_of}
 use Rattle.hem_syntax.specs.Protocol.{Protocol}
 use Rattle.hem_tree.specs.declared.raw.RawNode.{RawNode}
 use Rattle.hem_tree.specs.Tree.{Tree}
@@ -12,7 +12,7 @@ use Rattle.hem_work.specs.Work.{Work}
 use Rattle.hem_work.specs.Setup.{work_of}
 use Rattle.hem_work.specs.Reading.{ReadsWork}
 use Rattle.hem_system.specs.State.{State, start}
-use Rattle.hem_trace.specs.Reading.{ReadsHistory}
+use Rattle.hem_history.specs.Reading.{ReadsHistory}
 use Rattle.hem_parser.specs.Reading.{ReadsProtocol}
 
 -- what a document says

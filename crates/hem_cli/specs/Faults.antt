@@ -1,9 +1,9 @@
 -- The first fault of bytes that are no document: that of the first part that doesn't stand, or a token after the last part.
 use Rattle.std.specs.Prelude.{ℕ, ◌≡◌, ◌<◌, ◌⊎◌, List, length}
 use Rattle.hem_base.specs.declared.ids.Firing.{Firing}
-use Rattle.hem_base.specs.declared.text.Cause.TheVariants.{Expected}
-use Rattle.hem_base.specs.Tokens.{tokens_of}
-use Rattle.hem_base.specs.Machine.{state}
+use Rattle.hem_text.specs.declared.text.Cause.TheVariants.{Expected}
+use Rattle.hem_text.specs.Tokens.{tokens_of}
+use Rattle.hem_text.specs.Grammars.{state}
 use Rattle.hem_text.specs.declared.reader.TextFault.{TextFault}
 use Rattle.hem_text.specs.declared.reader.TextError.{TextError}
 use Rattle.hem_text.specs.declared.reader.TextError.TheVariants.{Text, OutOfMemory}
@@ -13,7 +13,7 @@ use Rattle.hem_tree.specs.declared.raw.RawNode.{RawNode}
 use Rattle.hem_tree.specs.Grammar as tree
 use Rattle.hem_work.specs.declared.raw.RawWork.{RawWork}
 use Rattle.hem_work.specs.Grammar as work
-use Rattle.hem_trace.specs.Grammar as history
+use Rattle.hem_history.specs.Grammar as history
 use Rattle.hem_parser.specs.Reading.{IsFirstProtocolFault}
 use Rattle.hem_cli.specs.Document.{IsProtocolAt, IsTreeAt, IsWorkAt, IsHistoryAt}
 

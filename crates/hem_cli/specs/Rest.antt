@@ -1,7 +1,7 @@
 -- What stands from a token on to the end of the text.
 use Rattle.std.specs.Prelude.{ℕ, List, length}
 use Rattle.hem_base.specs.declared.ids.Firing.{Firing}
-use Rattle.hem_base.specs.Tokens.{tokens_of}
+use Rattle.hem_text.specs.Tokens.{tokens_of}
 use Rattle.hem_syntax.specs.Protocol.{Protocol}
 use Rattle.hem_tree.specs.declared.raw.RawNode.{RawNode}
 use Rattle.hem_work.specs.declared.raw.RawWork.{RawWork}

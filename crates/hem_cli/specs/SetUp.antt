@@ -1,6 +1,6 @@
 -- Whether a document's tree and work are lawful, and the first rule that they break.
 use Rattle.std.specs.Prelude.{◌≡◌, ◌⊎◌, Some, None}
-use Rattle.hem_base.specs.declared.setup.Setup.{Setup as Fault}
+use Rattle.hem_tree.specs.declared.setup.SetupFault.{SetupFault as Fault}
 use Rattle.hem_tree.specs.declared.setup.SetupError.{SetupError}
 use Rattle.hem_tree.specs.declared.setup.SetupError.TheVariants.{Setup, OutOfMemory}
 use Rattle.hem_tree.specs.Tree.{IsLawful}

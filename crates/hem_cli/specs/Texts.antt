@@ -1,12 +1,12 @@
 -- The texts of faults, as bytes, and the text of a history that runs.
 use Rattle.std.specs.Prelude.{List, [], ◌++◌, cond, codes, decimal}
 use Rattle.hem_base.specs.declared.ids.Firing.{Firing}
-use Rattle.hem_base.specs.declared.text.Place.{Place}
-use Rattle.hem_base.specs.declared.text.Cause.{Cause}
-use Rattle.hem_base.specs.declared.text.Cause.TheVariants as cause
-use Rattle.hem_base.specs.declared.setup.Setup.{Setup}
-use Rattle.hem_base.specs.declared.setup.SetupCause.{SetupCause}
-use Rattle.hem_base.specs.declared.setup.SetupCause.TheVariants as rule
+use Rattle.hem_text.specs.declared.text.Place.{Place}
+use Rattle.hem_text.specs.declared.text.Cause.{Cause}
+use Rattle.hem_text.specs.declared.text.Cause.TheVariants as cause
+use Rattle.hem_tree.specs.declared.setup.SetupFault.{SetupFault}
+use Rattle.hem_tree.specs.declared.setup.SetupCause.{SetupCause}
+use Rattle.hem_tree.specs.declared.setup.SetupCause.TheVariants as rule
 use Rattle.hem_text.specs.declared.reader.TextFault.{TextFault}
 use Rattle.hem_syntax.specs.Protocol.{Protocol, Text}
 use Rattle.hem_tree.specs.Tree.{Tree}

@@ -3,7 +3,9 @@
 ghost use Rattle.std.specs.Prelude.{◌≡◌, IfOk, string_bytes};
 ghost use Rattle.hem_cli.specs.Texts.{cause_text, rule_text, fault_text, setup_text};
 
-use hem_base::{Cause, OutOfMemory, Place, Setup, SetupCause};
+use hem_text::{Cause, Place};
+use hem_base::OutOfMemory;
+use hem_tree::{SetupFault, SetupCause};
 use hem_text::TextFault;
 use std::alloc::Global;
 
@@ -47,7 +49,7 @@ pub(crate) fn fault_text(alloc: Global, fault: TextFault) -> Result<String, OutO
 }
 
 /// The first broken rule of a tree or a work.
-pub(crate) fn setup_text(alloc: Global, fault: Setup) -> Result<String, OutOfMemory>
+pub(crate) fn setup_text(alloc: Global, fault: SetupFault) -> Result<String, OutOfMemory>
     ensures { IfOk result (λ s. string_bytes s ≡ setup_text fault) }
 {
     let Place { line, column } = fault.place;

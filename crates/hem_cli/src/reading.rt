@@ -1,18 +1,19 @@
 //! The reader of documents: each part in turn, and then the end.
 
 ghost use Rattle.std.specs.Prelude.{◌≡◌, ◌≤◌, ◌<◌, length, IfOk, IfErr};
-ghost use Rattle.hem_base.specs.Tokens.{tokens_of};
+ghost use Rattle.hem_text.specs.Tokens.{tokens_of};
 ghost use Rattle.hem_text.specs.Cursors.{IsCursor};
 ghost use Rattle.hem_cli.specs.Document.{IsDocument, IsTreeAt, IsWorkAt, IsHistoryAt};
 ghost use Rattle.hem_cli.specs.Faults.{IsTooLong, IsHistoryFault, IsWorkFault, IsTreeFault, IsDocumentFault, OfFault};
 ghost use Rattle.hem_cli.specs.Rest.{IsHistoryRest, IsWorkRest, IsTreeRest};
 
 use crate::document::Document;
-use hem_base::{Cause, Firing, List};
+use hem_text::Cause;
+use hem_base::{Firing, List};
 use hem_parser::protocol;
 use hem_syntax::Protocol;
 use hem_text::{Cursor, TextError, TextFault, tokens};
-use hem_trace::read_history;
+use hem_history::read_history;
 use hem_tree::{RawTree, read_tree};
 use hem_work::{RawWork, read_work};
 use std::alloc::Global;

@@ -7,7 +7,7 @@ use Rattle.hem_base.specs.declared.ids.Message.{Message}
 use Rattle.hem_base.specs.declared.ids.MsgId.{MsgId}
 use Rattle.hem_base.specs.declared.ids.KidSet.{KidSet}
 use Rattle.hem_syntax.specs.declared.rule.Take.TheVariants.{Kids}
-use Rattle.hem_syntax.specs.Local.{Local}
+use Rattle.hem_object.specs.Local.{Local}
 use Rattle.hem_fire.specs.Heads.{Heads, has_id, awaited_of, heads_at, takes_there}
 
 -- the first of these children from a place on, with its head

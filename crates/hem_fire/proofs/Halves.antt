@@ -5,10 +5,10 @@ use Rattle.std.specs.List.{list_all}
 use Rattle.hem_base.specs.declared.ids.Kind.{Kind}
 use Rattle.hem_base.specs.declared.ids.Message.{Message}
 use Rattle.hem_syntax.specs.declared.rule.Rule.{Rule}
-use Rattle.hem_syntax.specs.declared.state.View.{View}
+use Rattle.hem_object.specs.declared.state.View.{View}
 use Rattle.hem_syntax.specs.Protocol.{Protocol}
-use Rattle.hem_syntax.specs.Local.{Local}
-use Rattle.hem_syntax.specs.Guard.{holds}
+use Rattle.hem_object.specs.Local.{Local}
+use Rattle.hem_object.specs.Guard.{holds}
 use Rattle.hem_fire.specs.View.{view_of}
 use Rattle.hem_object.specs.Changes.{assign_names}
 use Rattle.hem_fire.specs.Locks.{lock_names, request_in_hand}

@@ -8,7 +8,7 @@ use Rattle.hem_base.specs.declared.ids.MsgId.{MsgId}
 use Rattle.hem_base.specs.declared.ids.Message.{Message}
 use Rattle.hem_syntax.specs.declared.rule.Take.{Take}
 use Rattle.hem_syntax.specs.declared.rule.Take.TheVariants as take
-use Rattle.hem_syntax.specs.Local.{Local, nobody}
+use Rattle.hem_object.specs.Local.{Local, nobody}
 
 -- the heads of an object's input lists: the requester's requests, the parent's messages, each child's responses
 pub record Heads : Type 0 where

@@ -12,12 +12,12 @@ use Rattle.hem_syntax.specs.declared.rule.Take.TheVariants as take
 use Rattle.hem_syntax.specs.declared.rule.Hold.TheVariants as hold
 use Rattle.hem_syntax.specs.declared.rule.Origin.TheVariants as origin
 use Rattle.hem_syntax.specs.declared.rule.Side.TheVariants.{Up, Down}
-use Rattle.hem_syntax.specs.declared.state.By.{By}
-use Rattle.hem_syntax.specs.declared.state.Lock.{Lock}
-use Rattle.hem_syntax.specs.declared.state.View.{View}
-use Rattle.hem_syntax.specs.declared.state.By.TheVariants.{Parent, Own}
+use Rattle.hem_object.specs.declared.state.By.{By}
+use Rattle.hem_object.specs.declared.state.Lock.{Lock}
+use Rattle.hem_object.specs.declared.state.View.{View}
+use Rattle.hem_object.specs.declared.state.By.TheVariants.{Parent, Own}
 use Rattle.hem_syntax.specs.Protocol.{Protocol, class_of, is_request}
-use Rattle.hem_syntax.specs.Local.{Local, nobody}
+use Rattle.hem_object.specs.Local.{Local, nobody}
 use Rattle.hem_fire.specs.Heads.{Heads}
 use Rattle.hem_fire.specs.View.{asker}
 use Rattle.hem_fire.specs.Sends.{message_of}

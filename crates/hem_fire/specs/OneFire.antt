@@ -9,8 +9,8 @@ use Rattle.hem_syntax.specs.declared.rule.Take.{Take}
 use Rattle.hem_syntax.specs.declared.rule.Take.TheVariants as take
 use Rattle.hem_fire.specs.declared.outs.Outs.{Outs}
 use Rattle.hem_syntax.specs.Protocol.{Protocol}
-use Rattle.hem_syntax.specs.Local.{Local}
-use Rattle.hem_syntax.specs.Guard.{holds}
+use Rattle.hem_object.specs.Local.{Local}
+use Rattle.hem_object.specs.Guard.{holds}
 use Rattle.hem_fire.specs.Heads.{takes_there}
 pub use Rattle.hem_fire.specs.Heads.{Heads}
 use Rattle.hem_fire.specs.View.{view_of}

@@ -6,14 +6,14 @@ use Rattle.hem_base.specs.declared.ids.Kind.TheVariants.{Root}
 use Rattle.hem_syntax.specs.declared.rule.Class.TheVariants.{UpRsp}
 use Rattle.hem_syntax.specs.declared.rule.SendTo.{SendTo}
 use Rattle.hem_syntax.specs.declared.rule.SendTo.TheVariants as send
-use Rattle.hem_syntax.specs.declared.state.By.{By}
-use Rattle.hem_syntax.specs.declared.state.View.{View}
-use Rattle.hem_syntax.specs.declared.state.By.TheVariants.{Processor, Kid}
+use Rattle.hem_object.specs.declared.state.By.{By}
+use Rattle.hem_object.specs.declared.state.View.{View}
+use Rattle.hem_object.specs.declared.state.By.TheVariants.{Processor, Kid}
 use Rattle.hem_fire.specs.declared.outs.To.{To}
 use Rattle.hem_fire.specs.declared.outs.To.TheVariants as to
 use Rattle.hem_syntax.specs.Protocol.{Protocol, class_of}
-use Rattle.hem_syntax.specs.Local.{Local}
-use Rattle.hem_syntax.specs.Guard.{value_of, has_requester}
+use Rattle.hem_object.specs.Local.{Local}
+use Rattle.hem_object.specs.Guard.{value_of, has_requester}
 use Rattle.hem_object.specs.Targets.{targets_of}
 
 -- the message that the rule sends, where its value exists

@@ -3,11 +3,11 @@ use Rattle.std.specs.Prelude.{ℕ, Option, None, Some, slice_get, option_map, op
 use Rattle.hem_base.specs.declared.ids.Message.{Message}
 use Rattle.hem_syntax.specs.declared.rule.Take.{Take}
 use Rattle.hem_syntax.specs.declared.rule.Take.TheVariants as take
-use Rattle.hem_syntax.specs.declared.state.By.{By}
-use Rattle.hem_syntax.specs.declared.state.Lock.{Lock}
-use Rattle.hem_syntax.specs.declared.state.View.{View}
-use Rattle.hem_syntax.specs.declared.state.By.TheVariants.{Processor, Kid}
-use Rattle.hem_syntax.specs.Local.{Local, nobody}
+use Rattle.hem_object.specs.declared.state.By.{By}
+use Rattle.hem_object.specs.declared.state.Lock.{Lock}
+use Rattle.hem_object.specs.declared.state.View.{View}
+use Rattle.hem_object.specs.declared.state.By.TheVariants.{Processor, Kid}
+use Rattle.hem_object.specs.Local.{Local, nobody}
 use Rattle.hem_fire.specs.Heads.{Heads, awaited_of, awaited_heads}
 
 -- the value of a message, where there is one

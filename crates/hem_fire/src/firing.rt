@@ -4,7 +4,7 @@ ghost use Rattle.std.specs.Prelude.{◌≡◌, ℕ, Option, IsTrue};
 ghost use Rattle.hem_base.specs.declared.ids.Kind.{Kind};
 ghost use Rattle.hem_fire.specs.OneFire.{Heads, can_fire, outs_of, OneFire};
 ghost use Rattle.std.specs.Option.{option_map_or};
-ghost use Rattle.hem_syntax.specs.Local.{Local};
+ghost use Rattle.hem_object.specs.Local.{Local};
 ghost use Rattle.hem_object.specs.Changes.{freed, locked};
 ghost use Rattle.hem_fire.specs.View.{view_of};
 
@@ -15,7 +15,8 @@ use crate::sends::{goes_to, message_of};
 use crate::view::view_of;
 use hem_base::{Kind, Message, MsgId};
 use hem_object::Local;
-use hem_syntax::{Lock, Protocol, Rule, Side, Take, View};
+use hem_object::{Lock, View};
+use hem_syntax::{Protocol, Rule, Side, Take};
 
 /// What the firing takes and sends, in this view.
 fn outs_in(p: &Protocol, rule: &Rule, local: &Local, view: &View) -> Outs

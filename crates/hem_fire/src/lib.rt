@@ -12,6 +12,5 @@ mod view;
 
 pub use firing::{fire, outs_of};
 pub use heads::Heads;
-pub use hem_object::{By, Local, Lock, View};
 pub use outs::{Outs, To};
 pub use possible::can;

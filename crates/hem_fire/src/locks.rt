@@ -8,7 +8,8 @@ use crate::lookup::is_request_id;
 use crate::sends::message_of;
 use hem_base::{KidSet, Message};
 use hem_object::Local;
-use hem_syntax::{By, Hold, Lock, Origin, Protocol, SendTo, Side, Take, View};
+use hem_object::{By, Lock, View};
+use hem_syntax::{Hold, Origin, Protocol, SendTo, Side, Take};
 
 /// Whether a lock is as the rule needs it.
 pub(crate) fn need_holds(need: Hold, lock: Option<Lock>) -> bool

@@ -2,7 +2,7 @@
 
 ghost use Rattle.std.specs.Prelude.{◌≡◌, ◌&&◌};
 ghost use Rattle.std.specs.List.{list_all};
-ghost use Rattle.hem_syntax.specs.Guard.{holds};
+ghost use Rattle.hem_object.specs.Guard.{holds};
 ghost use Rattle.hem_object.specs.Changes.{assign_names};
 ghost use Rattle.hem_fire.specs.Locks.{lock_names};
 ghost use Rattle.hem_fire.specs.Sends.{send_names};
@@ -14,7 +14,8 @@ use crate::sends::send_names;
 use crate::view::view_of;
 use hem_base::{Kind, Message};
 use hem_object::Local;
-use hem_syntax::{Protocol, Rule, Take, View};
+use hem_syntax::{Protocol, Rule, Take};
+use hem_object::View;
 
 /// Whether the child fits the rule: it is named exactly where the rule takes from a child.
 fn me_fits(kind: Kind, take: Take, me: Option<u8>, children: usize) -> bool

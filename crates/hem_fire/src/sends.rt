@@ -1,13 +1,14 @@
 //! What a firing sends, and to whom.
 
 ghost use Rattle.std.specs.Prelude.{◌≡◌, ◌&&◌, ◌==◌, not, is_some, option_map};
-ghost use Rattle.hem_syntax.specs.Guard.{value_of};
+ghost use Rattle.hem_object.specs.Guard.{value_of};
 ghost use Rattle.hem_fire.specs.Sends.{message_of, has_parent, send_names, to_requester, goes_to};
 
 use crate::outs::To;
 use hem_base::{Kind, Message, MsgId};
 use hem_object::Local;
-use hem_syntax::{By, Class, Protocol, SendTo, View};
+use hem_object::{By, View};
+use hem_syntax::{Class, Protocol, SendTo};
 
 /// The message with this id, where its value exists.
 fn message_with(id: MsgId, value: Option<u64>) -> Option<Message>

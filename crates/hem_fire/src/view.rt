@@ -8,7 +8,8 @@ ghost use Rattle.hem_syntax.specs.declared.rule.Take.TheVariants as taking;
 use crate::heads::{Heads, awaited_of, value_in};
 use hem_base::{KidSet, Message};
 use hem_object::Local;
-use hem_syntax::{By, Lock, Take, View};
+use hem_object::{By, Lock, View};
+use hem_syntax::Take;
 
 /// The request that a lock keeps, where it is held.
 fn request_of(lock: Option<Lock>) -> Option<Message>

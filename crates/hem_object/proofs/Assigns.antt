@@ -6,8 +6,8 @@ use Rattle.std.specs.List.{list_all}
 use Rattle.hem_syntax.specs.declared.rule.Assign.{Assign}
 use Rattle.hem_syntax.specs.declared.rule.Assign.TheVariants.{Field, Val, Me, Targets}
 use Rattle.hem_syntax.specs.declared.rule.Value.TheVariants as value
-use Rattle.hem_syntax.specs.declared.state.View.{View}
-use Rattle.hem_syntax.specs.Local.{Local}
+use Rattle.hem_object.specs.declared.state.View.{View}
+use Rattle.hem_object.specs.Local.{Local}
 use Rattle.hem_object.specs.Changes.{assign_own, assign_names}
 
 -- a set of a field or of the value leaves all names that exist

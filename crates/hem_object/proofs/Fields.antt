@@ -7,7 +7,7 @@ use Rattle.hem_base.specs.declared.ids.Kind.{Kind}
 use Rattle.hem_base.specs.declared.ids.Kind.TheVariants.{Root, Mid, Leaf}
 use Rattle.hem_syntax.specs.Protocol.{Text, Protocol, part}
 use Rattle.hem_syntax.specs.Lawful.{IsProtocol}
-use Rattle.hem_syntax.specs.Local.{Local}
+use Rattle.hem_object.specs.Local.{Local}
 use Rattle.hem_object.specs.Start.{first_local}
 
 -- each kind has at most three

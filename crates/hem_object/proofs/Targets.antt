@@ -5,7 +5,7 @@ use Rattle.std.specs.Prelude.{cond, slice_get}
 use Rattle.hem_base.specs.Sets.{bits_where}
 use Rattle.hem_base.specs.declared.ids.Status8.{Status8}
 use Rattle.hem_base.specs.declared.ids.StatusSet.{StatusSet}
-use Rattle.hem_syntax.specs.Guard.{has, is_in}
+use Rattle.hem_object.specs.Guard.{has, is_in}
 
 bits_one_more : (bits n : ℕ) (b : Bool) → bits < 2 ^ n → bits + cond b (2 ^ n) 0 < 2 ^ suc n
 bits_one_more bits n true h = grind arith

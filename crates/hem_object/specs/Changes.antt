@@ -7,10 +7,10 @@ use Rattle.hem_syntax.specs.declared.rule.Side.{Side}
 use Rattle.hem_syntax.specs.declared.rule.Assign.{Assign}
 use Rattle.hem_syntax.specs.declared.rule.Assign.TheVariants as assign
 use Rattle.hem_syntax.specs.declared.rule.Side.TheVariants.{Up, Down}
-use Rattle.hem_syntax.specs.declared.state.Lock.{Lock}
-use Rattle.hem_syntax.specs.declared.state.View.{View}
-use Rattle.hem_syntax.specs.Local.{Local}
-use Rattle.hem_syntax.specs.Guard.{value_of, kids_of, is_requester}
+use Rattle.hem_object.specs.declared.state.Lock.{Lock}
+use Rattle.hem_object.specs.declared.state.View.{View}
+use Rattle.hem_object.specs.Local.{Local}
+use Rattle.hem_object.specs.Guard.{value_of, kids_of, is_requester}
 
 -- everything that a set names exists
 abbrev pub assign_names : Local → View → Assign → Bool

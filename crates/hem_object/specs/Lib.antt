@@ -1,3 +1,5 @@
+pub mod Local
+pub mod Guard
 pub mod Start
 pub mod Changes
 pub mod Targets

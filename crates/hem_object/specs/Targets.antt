@@ -5,9 +5,9 @@ use Rattle.hem_base.specs.declared.ids.KidSet.{KidSet}
 use Rattle.hem_base.specs.declared.ids.StatusSet.{StatusSet}
 use Rattle.hem_syntax.specs.declared.rule.SendTo.{SendTo}
 use Rattle.hem_syntax.specs.declared.rule.SendTo.TheVariants as send
-use Rattle.hem_syntax.specs.declared.state.View.{View}
-use Rattle.hem_syntax.specs.Local.{Local, nobody}
-use Rattle.hem_syntax.specs.Guard.{is_in, is_requester}
+use Rattle.hem_object.specs.declared.state.View.{View}
+use Rattle.hem_object.specs.Local.{Local, nobody}
+use Rattle.hem_object.specs.Guard.{is_in, is_requester}
 
 -- whether the directory has the child at that place in the set
 abbrev pub kid_is_in : Local → StatusSet → ℕ → Bool

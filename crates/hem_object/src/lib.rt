@@ -5,6 +5,7 @@ mod assign;
 mod guard;
 mod kids;
 mod local;
+mod state;
 
-pub use hem_syntax::{By, Lock, View};
 pub use local::Local;
+pub use state::{By, Lock, View};

@@ -7,7 +7,8 @@ ghost use Rattle.hem_object.specs.Start.{first_local};
 
 use arrayvec::ArrayVec;
 use hem_base::{Kind, Name, Status8};
-use hem_syntax::{Lock, Protocol, Side};
+use crate::Lock;
+use hem_syntax::{Protocol, Side};
 use std::marker::Model;
 
 /// What an object keeps of a line.
@@ -26,7 +27,7 @@ pub struct Local {
 }
 
 impl Model for Local {
-    ghost use Rattle.hem_syntax.specs.Local.{Local as Kept};
+    ghost use Rattle.hem_object.specs.Local.{Local as Kept};
 
     ghost Value = { Kept };
 

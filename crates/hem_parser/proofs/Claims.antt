@@ -17,7 +17,7 @@ use Rattle.hem_syntax.specs.declared.rule.SendTo.{SendTo}
 use Rattle.hem_syntax.specs.declared.rule.Rule.{Rule}
 use Rattle.hem_syntax.specs.Protocol.{Text, KindPart, empty_part}
 use Rattle.hem_syntax.specs.Lawful.{Counts, is_declarable, are_distinct, has_status, has_message, has_take, has_atom, has_assign, has_send, set_once, is_rule, named_once, names_after}
-use Rattle.hem_syntax.specs.Reading.{Read, nothing, no_rule, atom_with, send_with_status, send_with_message}
+use Rattle.hem_grammar.specs.Draft.{Read, nothing, no_rule, atom_with, send_with_status, send_with_message}
 
 -- how many there are
 abbrev pub counted : ℕ → ℕ → ℕ → Counts

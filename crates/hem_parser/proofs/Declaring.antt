@@ -8,13 +8,13 @@ use Rattle.hem_base.specs.declared.ids.Status8.{Status8}
 use Rattle.hem_syntax.specs.declared.rule.Class.{Class}
 use Rattle.hem_syntax.specs.declared.rule.Class.TheVariants.{ExtReq}
 use Rattle.hem_syntax.specs.declared.rule.Rule.{Rule}
-use Rattle.hem_syntax.specs.declared.grammar.Terminal.{Terminal}
-use Rattle.hem_syntax.specs.declared.grammar.Terminal.TheVariants as the
-use Rattle.hem_syntax.specs.declared.grammar.Part.TheVariants as part
+use Rattle.hem_grammar.specs.declared.terminals.Terminal.{Terminal}
+use Rattle.hem_grammar.specs.declared.terminals.Terminal.TheVariants as the
+use Rattle.hem_grammar.specs.declared.terminals.Part.TheVariants as part
 use Rattle.hem_syntax.specs.Protocol.{Text, KindPart, empty_part}
 use Rattle.hem_syntax.specs.Lawful.{names_after}
 use Rattle.hem_syntax.specs.Names.{with_last}
-use Rattle.hem_syntax.specs.Reading.{Read, grammar, is_in, is_among, is_short, first_status, status}
+use Rattle.hem_grammar.specs.Draft.{Read, grammar, is_in, is_among, is_short, first_status, status}
 use Rattle.hem_parser.proofs.Kept.{Makes, Weaker}
 use Rattle.hem_parser.proofs.Lists.{both, neither, is_not, by_set, length_more, all_more, all_less, any_both, any_map, map_more, place_within, under, is_under}
 use Rattle.hem_parser.proofs.Naming.{declarable, names_more}

@@ -2,7 +2,7 @@
 use Rattle.std.proofs.Common.{◌≡◌, ◌<◌, ◌≤◌, nat_lt, Bool, true, List, [], ◌∷◌, ◌++◌, length, refl, sym, subst, ◌∙◌, arith}
 use Rattle.std.specs.List.{list_any}
 use Rattle.std.specs.Str.{bytes_eq}
-use Rattle.hem_base.specs.declared.text.TokenKind.{TokenKind}
+use Rattle.hem_text.specs.declared.text.TokenKind.{TokenKind}
 use Rattle.hem_base.specs.declared.ids.Kind.{Kind}
 use Rattle.hem_base.specs.declared.ids.Status8.{Status8}
 use Rattle.hem_base.specs.declared.ids.MsgId.{MsgId}
@@ -14,14 +14,15 @@ use Rattle.hem_syntax.specs.declared.rule.Value.{Value}
 use Rattle.hem_syntax.specs.declared.rule.Value.TheVariants as value
 use Rattle.hem_syntax.specs.declared.rule.SendTo.{SendTo}
 use Rattle.hem_syntax.specs.declared.rule.SendTo.TheVariants as sending_to
-use Rattle.hem_syntax.specs.declared.grammar.Terminal.TheVariants as the
-use Rattle.hem_syntax.specs.declared.grammar.AtomPart.TheVariants as atom
-use Rattle.hem_syntax.specs.declared.grammar.AssignPart.TheVariants as assign
-use Rattle.hem_syntax.specs.declared.grammar.SendPart.TheVariants as send
+use Rattle.hem_grammar.specs.declared.terminals.Terminal.TheVariants as the
+use Rattle.hem_grammar.specs.declared.terminals.AtomPart.TheVariants as atom
+use Rattle.hem_grammar.specs.declared.terminals.AssignPart.TheVariants as assign
+use Rattle.hem_grammar.specs.declared.terminals.SendPart.TheVariants as send
 use Rattle.hem_syntax.specs.Protocol.{Text}
 use Rattle.hem_syntax.specs.Lawful.{Counts, has_status, has_message, has_field, has_set, has_atom, has_assign, has_send, set_once}
 use Rattle.hem_syntax.specs.Names.{set_last, last_or}
-use Rattle.hem_syntax.specs.Reading.{Read, is_word, is_among, is_field, field, message, status, no_atom, no_status, no_message, first_status, atom_with, assign_with, send_with_status, send_with_message, send_with_value, sets_field, sets_val, sets_me, sets_targets}
+use Rattle.hem_grammar.specs.Draft.{Read, is_among, is_field, field, message, status, no_atom, no_status, no_message, first_status, atom_with, assign_with, send_with_status, send_with_message, send_with_value, sets_field, sets_val, sets_me, sets_targets}
+use Rattle.hem_text.specs.Spelling.{is_word}
 use Rattle.hem_parser.proofs.Lists.{both, is_not, by_set, set_said, length_more, all_more, all_less, place_within, some_of, under, is_under}
 use Rattle.hem_parser.proofs.Setting.{first_set, more_set, more_atom, set_more, set_again, alike_field, alike_val, alike_me, alike_targets, alike_with}
 use Rattle.hem_parser.proofs.Claims.{inside, whole, speaking, asking, testing, valuing, choosing, sending, Guard, Open, Sets, Valued, counts}

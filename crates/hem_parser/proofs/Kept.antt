@@ -2,9 +2,9 @@
 use Rattle.std.proofs.Common.{◌≡◌, ℕ, zero, suc, Bool, true, false, cond, ◌&&◌, List, [], ◌∷◌, ◌++◌, refl, subst, sym, Some, None}
 use Rattle.std.specs.Prelude.{find, map}
 use Rattle.std.proofs.lemmas.Option.{option_and_then_some}
-use Rattle.hem_base.specs.declared.grammar.Symbol.{Symbol}
-use Rattle.hem_base.specs.declared.grammar.Symbol.TheVariants.{One, Item as Some_of, Maybe, Many}
-use Rattle.hem_base.specs.Machine.{Grammar, Lexeme, State, Way, full, goes, next, run, ways, way_at, way_into, takes, state}
+use Rattle.hem_text.specs.declared.symbol.Symbol.{Symbol}
+use Rattle.hem_text.specs.declared.symbol.Symbol.TheVariants.{One, Item as Some_of, Maybe, Many}
+use Rattle.hem_text.specs.Grammars.{Grammar, Lexeme, State, Way, full, goes, next, run, ways, way_at, way_into, takes, state}
 
 -- each element has it
 abbrev pub Each : {X : Type 0} → (X → Type 0) → List X → Type 0

@@ -6,26 +6,26 @@ use Rattle.hem_base.specs.declared.words.Reserved.{Reserved}
 use Rattle.hem_base.specs.declared.words.Reserved.TheVariants as word
 use Rattle.hem_base.specs.declared.words.Sign.{Sign}
 use Rattle.hem_base.specs.declared.words.Sign.TheVariants as mark
-use Rattle.hem_base.specs.declared.grammar.Symbol.{Symbol}
-use Rattle.hem_base.specs.declared.grammar.Symbol.TheVariants.{One, Item as Some_of, Many}
-use Rattle.hem_base.specs.Machine.{Lexeme, state, Reads}
+use Rattle.hem_text.specs.declared.symbol.Symbol.{Symbol}
+use Rattle.hem_text.specs.declared.symbol.Symbol.TheVariants.{One, Item as Some_of, Many}
+use Rattle.hem_text.specs.Grammars.{Lexeme, state, Reads}
 use Rattle.hem_syntax.specs.declared.rule.Class.TheVariants as class
 use Rattle.hem_syntax.specs.declared.rule.Hold.TheVariants as hold
 use Rattle.hem_syntax.specs.declared.rule.Side.TheVariants as side
 use Rattle.hem_syntax.specs.declared.rule.Origin.TheVariants as origin
 use Rattle.hem_syntax.specs.declared.rule.Value.TheVariants as value
-use Rattle.hem_syntax.specs.declared.grammar.Terminal.{Terminal}
-use Rattle.hem_syntax.specs.declared.grammar.Terminal.TheVariants as the
-use Rattle.hem_syntax.specs.declared.grammar.RulePart.TheVariants as rule
-use Rattle.hem_syntax.specs.declared.grammar.AtomPart.TheVariants as atom
-use Rattle.hem_syntax.specs.declared.grammar.AssignPart.TheVariants as assign
-use Rattle.hem_syntax.specs.declared.grammar.SendPart.TheVariants as send
-use Rattle.hem_syntax.specs.declared.grammar.Item.{Item}
-use Rattle.hem_syntax.specs.declared.grammar.Item.TheVariants as item
+use Rattle.hem_grammar.specs.declared.terminals.Terminal.{Terminal}
+use Rattle.hem_grammar.specs.declared.terminals.Terminal.TheVariants as the
+use Rattle.hem_grammar.specs.declared.terminals.RulePart.TheVariants as rule
+use Rattle.hem_grammar.specs.declared.terminals.AtomPart.TheVariants as atom
+use Rattle.hem_grammar.specs.declared.terminals.AssignPart.TheVariants as assign
+use Rattle.hem_grammar.specs.declared.terminals.SendPart.TheVariants as send
+use Rattle.hem_grammar.specs.declared.terminals.Item.{Item}
+use Rattle.hem_grammar.specs.declared.terminals.Item.TheVariants as item
 use Rattle.hem_syntax.specs.Protocol.{Protocol, KindPart}
-use Rattle.hem_syntax.specs.Grammar.{start, root, mid, leaf}
+use Rattle.hem_grammar.specs.Grammar.{start, root, mid, leaf}
 use Rattle.hem_syntax.specs.Lawful.{IsProtocol, IsPart}
-use Rattle.hem_syntax.specs.Reading.{Read, grammar, nothing, protocol_of}
+use Rattle.hem_grammar.specs.Draft.{Read, grammar, nothing, protocol_of}
 use Rattle.hem_parser.specs.Reading.{begin}
 use Rattle.hem_parser.proofs.Kept.{By, Seq, Token, Leads, run_keeps, ends_so}
 use Rattle.hem_parser.proofs.Claims.{Claim, unread, stating, declaring, opening, between, opened, inside, whole, taking, speaking, asking, testing, valuing, choosing, sending, Holds, Kind_of}

@@ -3,13 +3,13 @@ use Rattle.std.proofs.Common.{◌≡◌, ℕ, ◌+◌, ◌==◌, nat_lt, nat_le,
 use Rattle.std.specs.Prelude.{unwrap_or, if◌then◌else◌}
 use Rattle.std.specs.List.{list_any}
 use Rattle.std.specs.Str.{bytes_eq}
-use Rattle.hem_base.specs.declared.text.TokenKind.{TokenKind}
-use Rattle.hem_base.specs.declared.text.TokenKind.TheVariants.{Word, Number, Sign, Bad}
-use Rattle.hem_base.specs.Words.{is_name}
+use Rattle.hem_text.specs.declared.text.TokenKind.{TokenKind}
+use Rattle.hem_text.specs.declared.text.TokenKind.TheVariants.{Word, Number, Sign, Bad}
+use Rattle.hem_text.specs.Spelling.{is_name}
 use Rattle.hem_syntax.specs.declared.rule.Rule.{Rule}
 use Rattle.hem_syntax.specs.Protocol.{Text}
 use Rattle.hem_syntax.specs.Lawful.{is_declarable, are_distinct, named_once, names_after}
-use Rattle.hem_syntax.specs.Reading.{is_short, is_in, place_in, with_rule_name}
+use Rattle.hem_grammar.specs.Draft.{is_short, is_in, place_in, with_rule_name}
 use Rattle.hem_syntax.proofs.Tables.{has_place, no_place}
 use Rattle.hem_parser.proofs.Lists.{both, neither, is_not, all_more, any_more, length_more, place_within, some_of}
 use Rattle.hem_parser.proofs.Claims.{Names, name_after}

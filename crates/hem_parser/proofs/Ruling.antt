@@ -2,7 +2,7 @@
 use Rattle.std.proofs.Common.{◌≡◌, ◌==◌, nat_lt, Bool, true, [], ◌∷◌, ◌++◌, append_assoc, length, refl, sym, ap, ◌∙◌, arith}
 use Rattle.std.specs.List.{list_any}
 use Rattle.std.specs.Str.{bytes_eq}
-use Rattle.hem_base.specs.declared.text.TokenKind.{TokenKind}
+use Rattle.hem_text.specs.declared.text.TokenKind.{TokenKind}
 use Rattle.hem_base.specs.declared.ids.Kind.{Kind}
 use Rattle.hem_base.specs.declared.ids.MsgId.{MsgId}
 use Rattle.hem_syntax.specs.declared.rule.Take.{Take}
@@ -11,11 +11,12 @@ use Rattle.hem_syntax.specs.declared.rule.Hold.{Hold}
 use Rattle.hem_syntax.specs.declared.rule.Side.{Side}
 use Rattle.hem_syntax.specs.declared.rule.Origin.{Origin}
 use Rattle.hem_syntax.specs.declared.rule.Rule.{Rule}
-use Rattle.hem_syntax.specs.declared.grammar.Terminal.TheVariants as the
-use Rattle.hem_syntax.specs.declared.grammar.RulePart.TheVariants as rule
+use Rattle.hem_grammar.specs.declared.terminals.Terminal.TheVariants as the
+use Rattle.hem_grammar.specs.declared.terminals.RulePart.TheVariants as rule
 use Rattle.hem_syntax.specs.Protocol.{Text}
 use Rattle.hem_syntax.specs.Lawful.{Counts, has_message, has_take, has_send, is_rule, names_after}
-use Rattle.hem_syntax.specs.Reading.{Read, is_word, is_among, is_message, message, take_with, rule_id}
+use Rattle.hem_grammar.specs.Draft.{Read, is_among, is_message, message, take_with, rule_id}
+use Rattle.hem_text.specs.Spelling.{is_word}
 use Rattle.hem_parser.proofs.Lists.{both, is_not, length_more, all_more, place_within, some_of, under, is_at_most}
 use Rattle.hem_parser.proofs.Naming.{declarable, named_more, order_more, id_after, known_names}
 use Rattle.hem_parser.proofs.Claims.{between, opened, inside, whole, taking, RuleSo, counts}

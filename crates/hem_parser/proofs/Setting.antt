@@ -12,7 +12,7 @@ use Rattle.hem_syntax.specs.declared.rule.Value.{Value}
 use Rattle.hem_syntax.specs.declared.rule.Atom.{Atom}
 use Rattle.hem_syntax.specs.declared.rule.Atom.TheVariants as condition
 use Rattle.hem_syntax.specs.Lawful.{Counts, has_status, has_field, has_set, has_atom, write_alike, set_once}
-use Rattle.hem_syntax.specs.Reading.{bit, with_status, atom_with, no_status, sets_field, sets_val, sets_me, sets_targets, assign_with}
+use Rattle.hem_grammar.specs.Draft.{bit, with_status, atom_with, no_status, sets_field, sets_val, sets_me, sets_targets, assign_with}
 use Rattle.hem_parser.proofs.Lists.{both, neither, is_not, any_more, under, is_under}
 
 bit_is : (k : ℕ) → k < 4 → bit (record { 0 = k }) ≡ 2 ^ k

@@ -4,15 +4,15 @@ use Rattle.std.specs.Prelude.{slice_get, option_map, unwrap_or, IfSome, IfOk, If
 use Rattle.std.proofs.lemmas.Option.{slice_get-map, slice_get_within, slice_get_past, slice_get-get_or, unwrap_or-slice_get}
 use Rattle.std.proofs.lemmas.List.Elements.{All-get_or}
 use Rattle.std.proofs.lemmas.List.{length-map, length-drop}
-use Rattle.hem_base.specs.declared.text.Token.{Token}
-use Rattle.hem_base.specs.declared.text.Place.{Place}
-use Rattle.hem_base.specs.declared.text.Cause.{Cause}
-use Rattle.hem_base.specs.declared.text.Cause.TheVariants.{Expected}
-use Rattle.hem_base.specs.declared.grammar.Symbol.{Symbol}
-use Rattle.hem_base.specs.Machine.{Lexeme, lexeme, lexeme_of, state, Reads}
-use Rattle.hem_base.specs.Spans.{IsSpan}
-use Rattle.hem_base.specs.Tokens.{tokens_of, end_place}
-use Rattle.hem_base.specs.Words.{is_name}
+use Rattle.hem_text.specs.declared.text.Token.{Token}
+use Rattle.hem_text.specs.declared.text.Place.{Place}
+use Rattle.hem_text.specs.declared.text.Cause.{Cause}
+use Rattle.hem_text.specs.declared.text.Cause.TheVariants.{Expected}
+use Rattle.hem_text.specs.declared.symbol.Symbol.{Symbol}
+use Rattle.hem_text.specs.Grammars.{Lexeme, lexeme, lexeme_of, state, Reads}
+use Rattle.hem_text.specs.Spans.{IsSpan}
+use Rattle.hem_text.specs.Tokens.{tokens_of, end_place}
+use Rattle.hem_text.specs.Spelling.{is_name}
 use Rattle.hem_text.specs.Cursors.{lexemes_from}
 use Rattle.hem_text.specs.Faults.{IsFirstFault, ReadsOnly, place_of, place_in}
 use Rattle.hem_text.specs.declared.reader.TextError.{TextError}
@@ -21,10 +21,10 @@ use Rattle.hem_text.specs.declared.reader.TextFault.{TextFault}
 use Rattle.hem_text.proofs.Within.{spans_of}
 use Rattle.hem_shipped.specs.Texts.{text_of}
 use Rattle.hem_syntax.specs.Protocol.{Protocol}
-use Rattle.hem_syntax.specs.declared.grammar.Terminal.{Terminal}
-use Rattle.hem_syntax.specs.declared.grammar.Item.{Item}
-use Rattle.hem_syntax.specs.Grammar.{start}
-use Rattle.hem_syntax.specs.Reading.{Read, grammar, nothing, protocol_of}
+use Rattle.hem_grammar.specs.declared.terminals.Terminal.{Terminal}
+use Rattle.hem_grammar.specs.declared.terminals.Item.{Item}
+use Rattle.hem_grammar.specs.Grammar.{start}
+use Rattle.hem_grammar.specs.Draft.{Read, grammar, nothing, protocol_of}
 use Rattle.hem_parser.specs.Reading.{begin, IsWritten, IsWhole, IsShipped, IsProtocolOf, IsShippedAs, IsUsedAs, IsUse, IsUseFault, Says, Fails, IsOnlyFault, ReadsWritten, ReadsProtocol, IsFirstProtocolFault, begins_use, use_cause}
 
 -- what a look-up in a slice says

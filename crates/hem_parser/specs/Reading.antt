@@ -1,22 +1,23 @@
 -- What the reader of protocols answers:  PROTOCOL = use NAME | a protocol that is written out
 use Rattle.std.specs.Prelude.{ℕ, ◌≡◌, ◌+◌, ◌-◌, ◌≤◌, Bool, true, false, IsTrue, List, [], ◌∷◌, length, Option, None, Some, IfSome, slice_get, if◌then◌else◌}
-use Rattle.hem_base.specs.declared.text.Token.{Token}
-use Rattle.hem_base.specs.declared.text.Cause.{Cause}
-use Rattle.hem_base.specs.declared.text.Cause.TheVariants.{Unknown, Expected}
+use Rattle.hem_text.specs.declared.text.Token.{Token}
+use Rattle.hem_text.specs.declared.text.Cause.{Cause}
+use Rattle.hem_text.specs.declared.text.Cause.TheVariants.{Unknown, Expected}
 use Rattle.hem_base.specs.declared.words.Reserved.TheVariants as word
-use Rattle.hem_base.specs.Machine.{Lexeme, State, state, Reads, IsFault}
-use Rattle.hem_base.specs.Tokens.{tokens_of}
-use Rattle.hem_base.specs.Words.{is_name}
+use Rattle.hem_text.specs.Grammars.{Lexeme, State, state, Reads, IsFault}
+use Rattle.hem_text.specs.Tokens.{tokens_of}
+use Rattle.hem_text.specs.Spelling.{is_name}
 use Rattle.hem_text.specs.Cursors.{lexemes_from}
 use Rattle.hem_text.specs.Faults.{place_of}
 use Rattle.hem_text.specs.declared.reader.TextError.{TextError}
 use Rattle.hem_text.specs.declared.reader.TextError.TheVariants.{Text, OutOfMemory}
 use Rattle.hem_shipped.specs.Texts.{text_of}
-use Rattle.hem_syntax.specs.declared.grammar.Terminal.{Terminal}
-use Rattle.hem_syntax.specs.declared.grammar.Item.{Item}
+use Rattle.hem_grammar.specs.declared.terminals.Terminal.{Terminal}
+use Rattle.hem_grammar.specs.declared.terminals.Item.{Item}
 use Rattle.hem_syntax.specs.Protocol.{Protocol}
-use Rattle.hem_syntax.specs.Grammar.{start}
-use Rattle.hem_syntax.specs.Reading.{Read, grammar, nothing, protocol_of, is_the_word}
+use Rattle.hem_grammar.specs.Grammar.{start}
+use Rattle.hem_grammar.specs.Draft.{Read, grammar, nothing, protocol_of}
+use Rattle.hem_text.specs.Spelling.{is_the_word}
 
 -- nothing is read yet
 abbrev pub begin : State Read Terminal Item

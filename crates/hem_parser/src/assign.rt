@@ -2,15 +2,17 @@
 
 ghost use Rattle.std.specs.Prelude.{◌≡◌, OnOk};
 ghost use Rattle.std.specs.List.{list_any};
-ghost use Rattle.hem_syntax.specs.Grammar.{assign_follows, assign_stands};
-ghost use Rattle.hem_syntax.specs.Reading.{assign_spells, assign_within, assign_fresh, assign_said, sets_field, sets_val, sets_me, sets_targets};
+ghost use Rattle.hem_grammar.specs.Grammar.{assign_follows, assign_stands};
+ghost use Rattle.hem_grammar.specs.Draft.{assign_spells, assign_within, assign_fresh, assign_said, sets_field, sets_val, sets_me, sets_targets};
 
 use crate::draft::Draft;
 use crate::last::{last_assign, set_last_assign};
 use crate::sets::assign_with;
 use crate::words::{is_the_sign, is_the_word, spells_value, value_stands};
-use hem_base::{OutOfMemory, Reserved, Sign, Stands, Status8, Symbol, TokenKind};
-use hem_syntax::{Assign, AssignPart, Item, Terminal, Value};
+use hem_base::{OutOfMemory, Reserved, Sign, Status8};
+use hem_text::{Stands, Symbol, TokenKind};
+use hem_syntax::{Assign, Value};
+use hem_grammar::{AssignPart, Item, Terminal};
 
 /// How many sets a rule may have.
 const MOST_SETS: usize = 8;

@@ -1,15 +1,17 @@
 //! Tokens of guards.
 
 ghost use Rattle.std.specs.Prelude.{◌≡◌, OnOk};
-ghost use Rattle.hem_syntax.specs.Grammar.{atom_follows, atom_stands};
-ghost use Rattle.hem_syntax.specs.Reading.{atom_spells, atom_within, atom_fresh, atom_said};
+ghost use Rattle.hem_grammar.specs.Grammar.{atom_follows, atom_stands};
+ghost use Rattle.hem_grammar.specs.Draft.{atom_spells, atom_within, atom_fresh, atom_said};
 
 use crate::draft::Draft;
 use crate::last::{last_atom, set_last_atom};
 use crate::sets::{atom_set, atom_with};
 use crate::words::{is_the_sign, is_the_word};
-use hem_base::{MsgId, OutOfMemory, Reserved, Sign, Stands, StatusSet, Symbol, TokenKind};
-use hem_syntax::{Atom, AtomPart, Item, Terminal};
+use hem_base::{MsgId, OutOfMemory, Reserved, Sign, StatusSet};
+use hem_text::{Stands, Symbol, TokenKind};
+use hem_syntax::Atom;
+use hem_grammar::{AtomPart, Item, Terminal};
 
 /// How many atoms a guard may have.
 const MOST_ATOMS: usize = 16;

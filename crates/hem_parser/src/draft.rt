@@ -2,10 +2,11 @@
 
 ghost use Rattle.std.specs.Prelude.{◌≡◌, IfOk, IsTrue, [], None};
 ghost use Rattle.hem_syntax.specs.Protocol.{empty_part};
-ghost use Rattle.hem_syntax.specs.Reading.{is_short, status, message, field, rule_id, is_status, is_message, is_field, is_among, place_among, no_rule, nothing, kind_read};
+ghost use Rattle.hem_grammar.specs.Draft.{is_short, status, message, field, rule_id, is_status, is_message, is_field, is_among, place_among, no_rule, nothing, kind_read};
 
 use crate::words::is_word;
-use hem_base::{List, MsgId, Name, OutOfMemory, RuleId, Status8, TokenKind};
+use hem_base::{List, MsgId, Name, OutOfMemory, RuleId, Status8};
+use hem_text::TokenKind;
 use hem_syntax::{Class, Hold, KindPart, Named, Names, Need, Rule, SendTo, Take};
 use std::alloc::Global;
 use std::marker::Model;
@@ -30,7 +31,7 @@ pub struct Draft {
 
 impl Model for Draft {
     ghost use Rattle.std.specs.Prelude.{◌≤◌, length};
-    ghost use Rattle.hem_syntax.specs.Reading.{Read};
+    ghost use Rattle.hem_grammar.specs.Draft.{Read};
 
     ghost Value = { Read };
 

@@ -1,13 +1,12 @@
 //! How a protocol and its items begin.
 
 ghost use Rattle.std.specs.Prelude.{◌≡◌};
-ghost use Rattle.hem_syntax.specs.Grammar.{start, firsts};
+ghost use Rattle.hem_grammar.specs.Grammar.{start, firsts};
 
-use hem_base::{Reserved, Symbol};
-use hem_syntax::{
-    AssignPart, AtomPart, Class, Hold, Item, Origin, Part, RulePart, SendPart, Side, Terminal,
-    Value,
-};
+use hem_base::Reserved;
+use hem_text::Symbol;
+use hem_grammar::{AssignPart, AtomPart, Item, Part, RulePart, SendPart, Terminal};
+use hem_syntax::{Class, Hold, Origin, Side, Value};
 
 /// The words of the classes.
 const CLASSES: &[Terminal] = &[

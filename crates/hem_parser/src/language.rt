@@ -1,6 +1,6 @@
 //! The grammar of protocols that are written out.
 
-ghost use Rattle.hem_syntax.specs.Reading.{grammar};
+ghost use Rattle.hem_grammar.specs.Draft.{grammar};
 
 use crate::assign::{assign_follows, assign_stands};
 use crate::atom::{atom_follows, atom_stands};
@@ -10,8 +10,9 @@ use crate::part::{part_follows, part_stands};
 use crate::rule_part::{rule_follows, rule_stands};
 use crate::send::{send_follows, send_stands};
 use crate::words::{is_the_sign, is_the_word};
-use hem_base::{OutOfMemory, Place, Stands, Symbol, TokenKind, is_name};
-use hem_syntax::{Item, Terminal};
+use hem_base::OutOfMemory;
+use hem_text::{Place, Stands, Symbol, TokenKind, is_name};
+use hem_grammar::{Item, Terminal};
 use hem_text::Language;
 
 impl Language for Draft {

@@ -1,7 +1,7 @@
 //! The last element of a list.
 
 ghost use Rattle.std.specs.Prelude.{◌≡◌};
-ghost use Rattle.hem_syntax.specs.Reading.{last_or, set_last, no_atom, with_start};
+ghost use Rattle.hem_grammar.specs.Draft.{last_or, set_last, no_atom, with_start};
 ghost use Rattle.hem_syntax.specs.declared.rule.Assign.TheVariants.{Val};
 ghost use Rattle.hem_syntax.specs.declared.rule.Value.TheVariants.{Zero};
 

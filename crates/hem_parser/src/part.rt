@@ -1,14 +1,16 @@
 //! Tokens of declarations.
 
 ghost use Rattle.std.specs.Prelude.{◌≡◌, IsTrue, OnOk};
-ghost use Rattle.hem_syntax.specs.Grammar.{part_follows, part_stands};
-ghost use Rattle.hem_syntax.specs.Reading.{part_spells, part_within, part_fresh, part_after};
+ghost use Rattle.hem_grammar.specs.Grammar.{part_follows, part_stands};
+ghost use Rattle.hem_grammar.specs.Draft.{part_spells, part_within, part_fresh, part_after};
 
 use crate::draft::{Draft, is_among, name_of};
 use crate::last::set_start;
 use crate::words::{class_word, is_short, is_the_word};
-use hem_base::{OutOfMemory, Reserved, Stands, Status8, Symbol, TokenKind, is_name};
-use hem_syntax::{Class, Item, Part, Terminal};
+use hem_base::{OutOfMemory, Reserved, Status8};
+use hem_text::{Stands, Symbol, TokenKind, is_name};
+use hem_syntax::Class;
+use hem_grammar::{Item, Part, Terminal};
 
 /// How many statuses a protocol may have.
 const MOST_STATUSES: usize = 4;

@@ -1,15 +1,16 @@
 //! Reads a protocol, written out or by its name.
 
 ghost use Rattle.std.specs.Prelude.{◌≡◌, true, Some, IfOk, IfErr, OnErr};
-ghost use Rattle.hem_base.specs.Machine.{lexeme, lexeme_of};
-ghost use Rattle.hem_base.specs.Spans.{IsSpan};
+ghost use Rattle.hem_text.specs.Grammars.{lexeme, lexeme_of};
+ghost use Rattle.hem_text.specs.Spans.{IsSpan};
 ghost use Rattle.hem_text.specs.Cursors.{IsCursor, lexemes_from};
 ghost use Rattle.hem_parser.specs.Reading.{ReadsProtocol, IsFirstProtocolFault, IsUsedAs, begins_use, use_cause};
 
 use crate::shipped_text::by_name;
 use crate::words::is_the_word;
 use crate::written::written;
-use hem_base::{OutOfMemory, Reserved, is_name};
+use hem_base::{OutOfMemory, Reserved};
+use hem_text::is_name;
 use hem_syntax::Protocol;
 use hem_text::{Cause, Cursor, Place, TextError, TextFault, Token, TokenKind, place_after};
 use std::alloc::Global;

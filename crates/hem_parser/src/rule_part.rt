@@ -2,15 +2,17 @@
 
 ghost use Rattle.std.specs.Prelude.{◌≡◌, ◌==◌, IsTrue, OnOk};
 ghost use Rattle.std.specs.List.{list_any};
-ghost use Rattle.hem_syntax.specs.declared.grammar.RulePart.TheVariants.{NewRule};
-ghost use Rattle.hem_syntax.specs.Grammar.{rule_follows, rule_stands};
-ghost use Rattle.hem_syntax.specs.Reading.{rule_spells, rule_within, rule_fresh, rule_after};
+ghost use Rattle.hem_grammar.specs.declared.terminals.RulePart.TheVariants.{NewRule};
+ghost use Rattle.hem_grammar.specs.Grammar.{rule_follows, rule_stands};
+ghost use Rattle.hem_grammar.specs.Draft.{rule_spells, rule_within, rule_fresh, rule_after};
 
 use crate::draft::{Draft, name_of};
 use crate::sets::take_with;
 use crate::words::{hold_word, is_short, is_the_word, origin_word, side_word};
-use hem_base::{MsgId, OutOfMemory, Reserved, Stands, Symbol, TokenKind, is_name};
-use hem_syntax::{Item, Origin, Rule, RulePart, Take, Terminal};
+use hem_base::{MsgId, OutOfMemory, Reserved};
+use hem_text::{Stands, Symbol, TokenKind, is_name};
+use hem_grammar::{Item, RulePart, Terminal};
+use hem_syntax::{Origin, Rule, Take};
 
 /// How many rules a kind may have.
 const MOST_RULES: usize = 64;

@@ -1,14 +1,16 @@
 //! Tokens of sends.
 
 ghost use Rattle.std.specs.Prelude.{◌≡◌};
-ghost use Rattle.hem_syntax.specs.Grammar.{send_follows, send_stands};
-ghost use Rattle.hem_syntax.specs.Reading.{send_spells, send_fresh, send_said};
+ghost use Rattle.hem_grammar.specs.Grammar.{send_follows, send_stands};
+ghost use Rattle.hem_grammar.specs.Draft.{send_spells, send_fresh, send_said};
 
 use crate::draft::Draft;
 use crate::sets::{send_set, send_with_message, send_with_status, send_with_value};
 use crate::words::{is_the_word, spells_value, value_stands};
-use hem_base::{MsgId, Reserved, Stands, StatusSet, Symbol, TokenKind};
-use hem_syntax::{Item, SendPart, SendTo, Terminal, Value};
+use hem_base::{MsgId, Reserved, StatusSet};
+use hem_text::{Stands, Symbol, TokenKind};
+use hem_grammar::{Item, SendPart, Terminal};
+use hem_syntax::{SendTo, Value};
 
 /// What must follow a token of the send.
 pub fn send_follows(token: SendPart) -> &'static [Symbol<Terminal, Item>]

@@ -1,7 +1,7 @@
 //! Sets of statuses, and what is said of them.
 
 ghost use Rattle.std.specs.Prelude.{◌≡◌};
-ghost use Rattle.hem_syntax.specs.Reading.{bit, with_status, atom_set, send_set, atom_with, assign_with, send_with_status, send_with_message, send_with_value, take_with};
+ghost use Rattle.hem_grammar.specs.Draft.{bit, with_status, atom_set, send_set, atom_with, assign_with, send_with_status, send_with_message, send_with_value, take_with};
 
 use hem_base::{MsgId, Status8, StatusSet};
 use hem_syntax::{Assign, Atom, SendTo, Take, Value};

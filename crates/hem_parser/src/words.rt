@@ -2,10 +2,12 @@
 
 ghost use Rattle.std.specs.Prelude.{◌≡◌, ◌==◌};
 ghost use Rattle.std.specs.List.{list_all};
-ghost use Rattle.hem_syntax.specs.Grammar.{value_stands};
-ghost use Rattle.hem_syntax.specs.Reading.{is_word, is_sign, is_number, is_the_word, is_the_sign, is_zero, is_short, class_word, hold_word, side_word, origin_word, spells_value};
+ghost use Rattle.hem_grammar.specs.Grammar.{value_stands};
+ghost use Rattle.hem_grammar.specs.Draft.{is_short, class_word, hold_word, side_word, origin_word, spells_value};
+ghost use Rattle.hem_text.specs.Spelling.{is_word, is_sign, is_number, is_the_word, is_the_sign, is_zero};
 
-use hem_base::{Reserved, Sign, Stands, TokenKind, sign_bytes, word_bytes};
+use hem_base::{Reserved, Sign, sign_bytes, word_bytes};
+use hem_text::{Stands, TokenKind};
 use hem_syntax::{Class, Hold, Origin, Side, Value};
 
 pub fn is_word(kind: TokenKind) -> bool

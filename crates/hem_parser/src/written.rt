@@ -1,9 +1,9 @@
 //! Reads a protocol that is written out.
 
 ghost use Rattle.std.specs.Prelude.{◌≡◌, IfOk, IfErr, OnErr};
-ghost use Rattle.hem_syntax.specs.Grammar.{start};
+ghost use Rattle.hem_grammar.specs.Grammar.{start};
 ghost use Rattle.hem_syntax.specs.Lawful.{IsProtocol};
-ghost use Rattle.hem_syntax.specs.Reading.{grammar, protocol_of};
+ghost use Rattle.hem_grammar.specs.Draft.{grammar, protocol_of};
 ghost use Rattle.hem_text.specs.Cursors.{IsCursor};
 ghost use Rattle.hem_text.specs.Faults.{IsFirstFault};
 ghost use Rattle.hem_parser.specs.Reading.{begin, ReadsWritten};

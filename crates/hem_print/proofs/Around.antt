@@ -10,8 +10,9 @@ use Rattle.hem_base.specs.Words.{is_reserved, word_bytes}
 use Rattle.hem_syntax.specs.declared.rule.Rule.{Rule}
 use Rattle.hem_syntax.specs.Protocol.{Text, Protocol, KindPart}
 use Rattle.hem_syntax.specs.Lawful.{is_declarable, are_distinct}
-use Rattle.hem_syntax.specs.Reading.{Read, is_word, is_in, is_among, place_among}
-use Rattle.hem_syntax.specs.Canonical.{Word, plain, word_kind, spelling, status_name, message_name, field_name}
+use Rattle.hem_grammar.specs.Draft.{Read, is_in, is_among, place_among}
+use Rattle.hem_text.specs.Spelling.{is_word}
+use Rattle.hem_print.specs.Canonical.{Word, plain, word_kind, spelling, status_name, message_name, field_name}
 use Rattle.hem_print.proofs.Naming.{name_at, place_of_name, name_known, not_word, among_is, place_among_is, pair_name, length_names}
 use Rattle.hem_print.proofs.SetRuns.{status_in}
 

@@ -6,11 +6,11 @@ use Rattle.std.proofs.lemmas.List.Folds.{list_all-append}
 use Rattle.std.proofs.lemmas.Str.{IsUtf8-from_ascii}
 use Rattle.hem_base.specs.declared.words.Sign.{Sign}
 use Rattle.hem_base.specs.declared.words.Sign.TheVariants as sign
-use Rattle.hem_base.specs.Tokens.{is_word_byte}
+use Rattle.hem_base.specs.Words.{is_word_byte}
 use Rattle.hem_base.specs.Words.{word_bytes, sign_bytes, is_word_text}
 use Rattle.hem_syntax.specs.Protocol.{Protocol}
 use Rattle.hem_syntax.specs.Lawful.{IsProtocol}
-use Rattle.hem_syntax.specs.Canonical.{Word, plain, named, signed, nought, spelling, gap, words_text, Line, line_text, lines_text, protocol_lines, protocol_text}
+use Rattle.hem_print.specs.Canonical.{Word, plain, named, signed, nought, spelling, gap, words_text, Line, line_text, lines_text, protocol_lines, protocol_text}
 use Rattle.hem_print.proofs.Naming.{and_left, and_right}
 use Rattle.hem_print.proofs.RuleRuns.{words_of}
 use Rattle.hem_print.proofs.Lexing.{is_good, reserved_text, all_cut}

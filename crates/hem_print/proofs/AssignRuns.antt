@@ -6,24 +6,24 @@ use Rattle.hem_base.specs.Words.{word_bytes}
 use Rattle.hem_base.specs.declared.ids.Status8.{Status8}
 use Rattle.hem_base.specs.declared.words.Reserved.TheVariants as word
 use Rattle.hem_base.specs.declared.words.Sign.TheVariants as sign
-use Rattle.hem_base.specs.declared.grammar.Symbol.{Symbol}
-use Rattle.hem_base.specs.declared.grammar.Symbol.TheVariants.{Item as Some_of, Maybe, Many}
-use Rattle.hem_base.specs.Machine.{state}
+use Rattle.hem_text.specs.declared.symbol.Symbol.{Symbol}
+use Rattle.hem_text.specs.declared.symbol.Symbol.TheVariants.{Item as Some_of, Maybe, Many}
+use Rattle.hem_text.specs.Grammars.{state}
 use Rattle.hem_syntax.specs.declared.rule.Value.{Value}
 use Rattle.hem_syntax.specs.declared.rule.Value.TheVariants as value
 use Rattle.hem_syntax.specs.declared.rule.Assign.{Assign}
 use Rattle.hem_syntax.specs.declared.rule.Assign.TheVariants as setting
 use Rattle.hem_syntax.specs.declared.rule.Rule.{Rule}
-use Rattle.hem_syntax.specs.declared.grammar.Terminal.{Terminal}
-use Rattle.hem_syntax.specs.declared.grammar.Terminal.TheVariants as the
-use Rattle.hem_syntax.specs.declared.grammar.AssignPart.TheVariants as assign
-use Rattle.hem_syntax.specs.declared.grammar.Item.{Item}
-use Rattle.hem_syntax.specs.declared.grammar.Item.TheVariants as item
-use Rattle.hem_syntax.specs.Grammar.{s}
+use Rattle.hem_grammar.specs.declared.terminals.Terminal.{Terminal}
+use Rattle.hem_grammar.specs.declared.terminals.Terminal.TheVariants as the
+use Rattle.hem_grammar.specs.declared.terminals.AssignPart.TheVariants as assign
+use Rattle.hem_grammar.specs.declared.terminals.Item.{Item}
+use Rattle.hem_grammar.specs.declared.terminals.Item.TheVariants as item
+use Rattle.hem_grammar.specs.Grammar.{s}
 use Rattle.hem_syntax.specs.Protocol.{Protocol, KindPart}
 use Rattle.hem_syntax.specs.Lawful.{counts_of, has_assign, set_once, write_alike}
-use Rattle.hem_syntax.specs.Reading.{assign_with, and_assign, first_status, set_last, sets_field, sets_val, sets_me, sets_targets}
-use Rattle.hem_syntax.specs.Canonical.{Word, plain, named, signed, assign_words, value_word, led, field_name, status_name}
+use Rattle.hem_grammar.specs.Draft.{assign_with, and_assign, first_status, set_last, sets_field, sets_val, sets_me, sets_targets}
+use Rattle.hem_print.specs.Canonical.{Word, plain, named, signed, assign_words, value_word, led, field_name, status_name}
 use Rattle.hem_print.proofs.Steps.{go, picks, pick, skip}
 use Rattle.hem_print.proofs.Naming.{and_left, and_right, not_true, not_false, or_left, or_right, or_both, cond_true, cond_false, last_snoc, set_last_snoc}
 use Rattle.hem_print.proofs.SetRuns.{status_in}

@@ -7,22 +7,22 @@ use Rattle.hem_base.specs.declared.ids.Status8.{Status8}
 use Rattle.hem_base.specs.declared.ids.StatusSet.{StatusSet}
 use Rattle.hem_base.specs.declared.words.Reserved.TheVariants as word
 use Rattle.hem_base.specs.declared.words.Sign.TheVariants as sign
-use Rattle.hem_base.specs.declared.grammar.Symbol.{Symbol}
-use Rattle.hem_base.specs.declared.grammar.Symbol.TheVariants.{Item as Some_of, Maybe, Many}
-use Rattle.hem_base.specs.Machine.{state}
+use Rattle.hem_text.specs.declared.symbol.Symbol.{Symbol}
+use Rattle.hem_text.specs.declared.symbol.Symbol.TheVariants.{Item as Some_of, Maybe, Many}
+use Rattle.hem_text.specs.Grammars.{state}
 use Rattle.hem_syntax.specs.declared.rule.Atom.{Atom}
 use Rattle.hem_syntax.specs.declared.rule.Atom.TheVariants as condition
 use Rattle.hem_syntax.specs.declared.rule.Rule.{Rule}
-use Rattle.hem_syntax.specs.declared.grammar.Terminal.{Terminal}
-use Rattle.hem_syntax.specs.declared.grammar.Terminal.TheVariants as the
-use Rattle.hem_syntax.specs.declared.grammar.AtomPart.TheVariants as atom
-use Rattle.hem_syntax.specs.declared.grammar.Item.{Item}
-use Rattle.hem_syntax.specs.declared.grammar.Item.TheVariants as item
-use Rattle.hem_syntax.specs.Grammar.{a}
+use Rattle.hem_grammar.specs.declared.terminals.Terminal.{Terminal}
+use Rattle.hem_grammar.specs.declared.terminals.Terminal.TheVariants as the
+use Rattle.hem_grammar.specs.declared.terminals.AtomPart.TheVariants as atom
+use Rattle.hem_grammar.specs.declared.terminals.Item.{Item}
+use Rattle.hem_grammar.specs.declared.terminals.Item.TheVariants as item
+use Rattle.hem_grammar.specs.Grammar.{a}
 use Rattle.hem_syntax.specs.Protocol.{Protocol, KindPart}
 use Rattle.hem_syntax.specs.Lawful.{counts_of, has_atom, has_set}
-use Rattle.hem_syntax.specs.Reading.{no_atom, atom_set, atom_with, and_atom, with_status, no_status, no_message, last_or, set_last}
-use Rattle.hem_syntax.specs.Canonical.{Word, plain, named, signed, atom_words, set_words, led, field_name, message_name}
+use Rattle.hem_grammar.specs.Draft.{no_atom, atom_set, atom_with, and_atom, with_status, no_status, no_message, last_or, set_last}
+use Rattle.hem_print.specs.Canonical.{Word, plain, named, signed, atom_words, set_words, led, field_name, message_name}
 use Rattle.hem_print.proofs.Steps.{go, picks, pick, skip}
 use Rattle.hem_print.proofs.Naming.{and_left, and_right, cond_true, cond_false, last_snoc, set_last_snoc}
 use Rattle.hem_print.proofs.SetRuns.{Fills, status_in, set_run}

@@ -5,21 +5,21 @@ use Rattle.std.specs.Str.{bytes_eq}
 use Rattle.std.proofs.lemmas.List.Folds.{list_any-append}
 use Rattle.hem_base.specs.declared.words.Reserved.{Reserved}
 use Rattle.hem_base.specs.declared.words.Reserved.TheVariants as word
-use Rattle.hem_base.specs.declared.grammar.Symbol.{Symbol}
-use Rattle.hem_base.specs.declared.grammar.Symbol.TheVariants.{Item as Some_of, Many}
-use Rattle.hem_base.specs.Machine.{state}
+use Rattle.hem_text.specs.declared.symbol.Symbol.{Symbol}
+use Rattle.hem_text.specs.declared.symbol.Symbol.TheVariants.{Item as Some_of, Many}
+use Rattle.hem_text.specs.Grammars.{state}
 use Rattle.hem_syntax.specs.declared.rule.Class.{Class}
 use Rattle.hem_syntax.specs.declared.rule.Class.TheVariants as class
-use Rattle.hem_syntax.specs.declared.grammar.Terminal.{Terminal}
-use Rattle.hem_syntax.specs.declared.grammar.Terminal.TheVariants as the
-use Rattle.hem_syntax.specs.declared.grammar.Part.TheVariants as part
-use Rattle.hem_syntax.specs.declared.grammar.Item.{Item}
-use Rattle.hem_syntax.specs.declared.grammar.Item.TheVariants as item
-use Rattle.hem_syntax.specs.Grammar.{p as d}
+use Rattle.hem_grammar.specs.declared.terminals.Terminal.{Terminal}
+use Rattle.hem_grammar.specs.declared.terminals.Terminal.TheVariants as the
+use Rattle.hem_grammar.specs.declared.terminals.Part.TheVariants as part
+use Rattle.hem_grammar.specs.declared.terminals.Item.{Item}
+use Rattle.hem_grammar.specs.declared.terminals.Item.TheVariants as item
+use Rattle.hem_grammar.specs.Grammar.{p as d}
 use Rattle.hem_syntax.specs.Protocol.{Text}
 use Rattle.hem_syntax.specs.Lawful.{is_declarable, are_distinct}
-use Rattle.hem_syntax.specs.Reading.{Read, nothing, is_in, is_among, set_last, class_word, with_class}
-use Rattle.hem_syntax.specs.Canonical.{Word, plain, named, message_line}
+use Rattle.hem_grammar.specs.Draft.{Read, nothing, is_in, is_among, set_last, class_word, with_class}
+use Rattle.hem_print.specs.Canonical.{Word, plain, named, message_line}
 use Rattle.hem_print.proofs.Steps.{go, picks, pick, skip}
 use Rattle.hem_print.proofs.Naming.{and_left, and_right, not_false, or_left, or_right, or_both, cond_true, among_is, last_snoc, set_last_snoc}
 use Rattle.hem_print.proofs.RuleRuns.{words_of}

@@ -27,7 +27,7 @@ use Rattle.hem_syntax.specs.declared.rule.SendTo.TheVariants as send
 use Rattle.hem_syntax.specs.declared.rule.Rule.{Rule}
 use Rattle.hem_syntax.specs.Protocol.{Text, Protocol, KindPart}
 use Rattle.hem_syntax.specs.Lawful.{is_declarable, counts_of, has_take, has_atom, has_assign, has_send, has_set, is_rule, names_after, IsProtocol}
-use Rattle.hem_syntax.specs.Canonical.{Word, plain, named, signed, Line, line, status_name, message_name, field_name, rule_name, names_in, set_words, led, value_word, take_words, atom_words, assign_words, free_words, lock_words, message_words, send_words, rule_words, rule_line, field_line, dir_lines, end_line, kind_lines, message_line, declaration_lines, protocol_lines}
+use Rattle.hem_print.specs.Canonical.{Word, plain, named, signed, Line, line, status_name, message_name, field_name, rule_name, names_in, set_words, led, value_word, take_words, atom_words, assign_words, free_words, lock_words, message_words, send_words, rule_words, rule_line, field_line, dir_lines, end_line, kind_lines, message_line, declaration_lines, protocol_lines}
 use Rattle.hem_print.proofs.Naming.{and_left, and_right, name_at, pair_name, length_names}
 use Rattle.hem_print.proofs.Around.{AreNamed}
 use Rattle.hem_print.proofs.RuleNames.{names_grow}

@@ -7,21 +7,21 @@ use Rattle.std.proofs.lemmas.Grind.{flat_map-append}
 use Rattle.hem_base.specs.declared.ids.Status8.{Status8}
 use Rattle.hem_base.specs.declared.words.Reserved.{Reserved}
 use Rattle.hem_base.specs.declared.words.Reserved.TheVariants as word
-use Rattle.hem_base.specs.declared.grammar.Symbol.{Symbol}
-use Rattle.hem_base.specs.declared.grammar.Symbol.TheVariants.{Many}
-use Rattle.hem_base.specs.Machine.{state}
+use Rattle.hem_text.specs.declared.symbol.Symbol.{Symbol}
+use Rattle.hem_text.specs.declared.symbol.Symbol.TheVariants.{Many}
+use Rattle.hem_text.specs.Grammars.{state}
 use Rattle.hem_base.specs.Words.{word_bytes}
 use Rattle.hem_syntax.specs.declared.rule.Rule.{Rule}
-use Rattle.hem_syntax.specs.declared.grammar.Terminal.{Terminal}
-use Rattle.hem_syntax.specs.declared.grammar.Terminal.TheVariants as the
-use Rattle.hem_syntax.specs.declared.grammar.Part.TheVariants as part
-use Rattle.hem_syntax.specs.declared.grammar.Item.{Item}
-use Rattle.hem_syntax.specs.declared.grammar.Item.TheVariants as item
-use Rattle.hem_syntax.specs.Grammar.{w, p as d, root, mid, leaf}
+use Rattle.hem_grammar.specs.declared.terminals.Terminal.{Terminal}
+use Rattle.hem_grammar.specs.declared.terminals.Terminal.TheVariants as the
+use Rattle.hem_grammar.specs.declared.terminals.Part.TheVariants as part
+use Rattle.hem_grammar.specs.declared.terminals.Item.{Item}
+use Rattle.hem_grammar.specs.declared.terminals.Item.TheVariants as item
+use Rattle.hem_grammar.specs.Grammar.{w, p as d, root, mid, leaf}
 use Rattle.hem_syntax.specs.Protocol.{Text, Protocol, KindPart}
 use Rattle.hem_syntax.specs.Lawful.{is_declarable, are_distinct, counts_of, is_rule, named_once, names_after}
-use Rattle.hem_syntax.specs.Reading.{is_in, is_among, first_status, no_rule, set_last}
-use Rattle.hem_syntax.specs.Canonical.{Word, plain, named, status_name, field_line, dir_lines, rule_line, rule_words, rule_name, end_line, kind_lines}
+use Rattle.hem_grammar.specs.Draft.{is_in, is_among, first_status, no_rule, set_last}
+use Rattle.hem_print.specs.Canonical.{Word, plain, named, status_name, field_line, dir_lines, rule_line, rule_words, rule_name, end_line, kind_lines}
 use Rattle.hem_print.proofs.Steps.{go, pick, skip}
 use Rattle.hem_print.proofs.Naming.{and_left, and_right, not_true, not_false, or_left, or_right, or_both, cond_true, cond_false, among_is, last_snoc, set_last_snoc}
 use Rattle.hem_print.proofs.SetRuns.{status_in}

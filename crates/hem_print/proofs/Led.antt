@@ -5,7 +5,7 @@ use Rattle.std.proofs.lemmas.Grind.{flat_map-append}
 use Rattle.hem_base.specs.declared.words.Sign.TheVariants as sign
 use Rattle.hem_base.specs.declared.words.Reserved.TheVariants as word
 use Rattle.hem_syntax.specs.Protocol.{Protocol, KindPart}
-use Rattle.hem_syntax.specs.Canonical.{Word, signed, gap, spelling, words_text, led, Line, end_line, line_text, lines_text, declaration_lines, kind_lines, protocol_text}
+use Rattle.hem_print.specs.Canonical.{Word, signed, gap, spelling, words_text, led, Line, end_line, line_text, lines_text, declaration_lines, kind_lines, protocol_text}
 
 -- words after words
 pub words_joined : (xs ys : List Word) → words_text (xs ++ ys) ≡ words_text xs ++ words_text ys

@@ -3,19 +3,20 @@ use Rattle.std.proofs.Common.{◌≡◌, ℕ, suc, ◌+◌, ◌-◌, Bool, true,
 use Rattle.std.specs.Prelude.{fold}
 use Rattle.std.specs.List.{list_all, prefix_len}
 use Rattle.std.specs.Char.{is_ascii_alphabetic}
-use Rattle.hem_base.specs.declared.text.TokenKind.{TokenKind}
-use Rattle.hem_base.specs.declared.text.TokenKind.TheVariants as kind
-use Rattle.hem_base.specs.declared.text.Token.{Token}
-use Rattle.hem_base.specs.declared.text.Place.{Place}
-use Rattle.hem_base.specs.declared.text.Piece.{Piece}
+use Rattle.hem_text.specs.declared.text.TokenKind.{TokenKind}
+use Rattle.hem_text.specs.declared.text.TokenKind.TheVariants as kind
+use Rattle.hem_text.specs.declared.text.Token.{Token}
+use Rattle.hem_text.specs.declared.text.Place.{Place}
+use Rattle.hem_text.specs.declared.text.Piece.{Piece}
 use Rattle.hem_base.specs.declared.words.Reserved.{Reserved}
 use Rattle.hem_base.specs.declared.words.Reserved.TheVariants as word
 use Rattle.hem_base.specs.declared.words.Sign.{Sign}
 use Rattle.hem_base.specs.declared.words.Sign.TheVariants as sign
-use Rattle.hem_base.specs.Machine.{Lexeme, lexeme}
-use Rattle.hem_base.specs.Tokens.{is_space, begins_comment, is_word_byte, is_pair, kind_of_run, token, run_at, piece_of, advance, with_token, tokens_from, tokens_of, start_place}
+use Rattle.hem_text.specs.Grammars.{Lexeme, lexeme}
+use Rattle.hem_text.specs.Tokens.{is_space, begins_comment, is_pair, kind_of_run, token, run_at, piece_of, advance, with_token, tokens_from, tokens_of, start_place}
+use Rattle.hem_base.specs.Words.{is_word_byte}
 use Rattle.hem_base.specs.Words.{word_bytes, sign_bytes, is_word_text}
-use Rattle.hem_syntax.specs.Canonical.{Word, plain, named, signed, nought, word_kind, spelling, gap, words_text, Line, line_text, lines_text}
+use Rattle.hem_print.specs.Canonical.{Word, plain, named, signed, nought, word_kind, spelling, gap, words_text, Line, line_text, lines_text}
 use Rattle.std.proofs.lemmas.List.Folds.{list_all-append}
 use Rattle.hem_print.proofs.Naming.{and_left, and_right, cond_true, cond_false, not_true}
 use Rattle.hem_print.proofs.Steps.{lex}

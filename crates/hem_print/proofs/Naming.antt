@@ -8,7 +8,7 @@ use Rattle.std.proofs.lemmas.Slice.Eq.{bytes_eq-Decides}
 use Rattle.hem_base.specs.Words.{is_reserved}
 use Rattle.hem_syntax.specs.Protocol.{Text}
 use Rattle.hem_syntax.specs.Lawful.{is_declarable, are_distinct}
-use Rattle.hem_syntax.specs.Reading.{place_in, place_among, is_in, is_among, last_or, set_last}
+use Rattle.hem_grammar.specs.Draft.{place_in, place_among, is_in, is_among, last_or, set_last}
 
 -- tests
 

@@ -8,17 +8,17 @@ use Rattle.std.proofs.lemmas.List.Folds.{list_any-append, list_all-append}
 use Rattle.std.proofs.lemmas.Grind.{flat_map-append}
 use Rattle.hem_base.specs.declared.ids.Status8.{Status8}
 use Rattle.hem_base.specs.declared.words.Reserved.TheVariants as word
-use Rattle.hem_base.specs.declared.grammar.Symbol.{Symbol}
-use Rattle.hem_base.specs.Machine.{state}
-use Rattle.hem_syntax.specs.declared.grammar.Terminal.{Terminal}
-use Rattle.hem_syntax.specs.declared.grammar.Terminal.TheVariants as the
-use Rattle.hem_syntax.specs.declared.grammar.Part.TheVariants as part
-use Rattle.hem_syntax.specs.declared.grammar.Item.{Item}
-use Rattle.hem_syntax.specs.Grammar.{w, p as d, start, root, mid, leaf}
+use Rattle.hem_text.specs.declared.symbol.Symbol.{Symbol}
+use Rattle.hem_text.specs.Grammars.{state}
+use Rattle.hem_grammar.specs.declared.terminals.Terminal.{Terminal}
+use Rattle.hem_grammar.specs.declared.terminals.Terminal.TheVariants as the
+use Rattle.hem_grammar.specs.declared.terminals.Part.TheVariants as part
+use Rattle.hem_grammar.specs.declared.terminals.Item.{Item}
+use Rattle.hem_grammar.specs.Grammar.{w, p as d, start, root, mid, leaf}
 use Rattle.hem_syntax.specs.Protocol.{Text, Protocol, KindPart, empty_part}
 use Rattle.hem_syntax.specs.Lawful.{is_declarable, are_distinct, has_status, names_after, IsPart, IsProtocol}
-use Rattle.hem_syntax.specs.Reading.{Read, nothing, is_in, no_rule, protocol_of}
-use Rattle.hem_syntax.specs.Canonical.{plain, named, Line, field_line, dir_lines, rule_line, message_line, declaration_lines, kind_lines, end_line, protocol_lines}
+use Rattle.hem_grammar.specs.Draft.{Read, nothing, is_in, no_rule, protocol_of}
+use Rattle.hem_print.specs.Canonical.{plain, named, Line, field_line, dir_lines, rule_line, message_line, declaration_lines, kind_lines, end_line, protocol_lines}
 use Rattle.hem_print.proofs.Steps.{go, pick}
 use Rattle.hem_print.proofs.Naming.{and_left, and_right, not_true, or_left, or_right, or_both, cond_true, bytes_same, same_bytes}
 use Rattle.hem_print.proofs.Around.{env}

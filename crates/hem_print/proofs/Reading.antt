@@ -1,15 +1,15 @@
 -- The canonical text of a protocol reads as that protocol.
 use Rattle.std.proofs.Common.{◌≡◌, ℕ, ◌≤◌, List, [], ◌∷◌, map, length, take_all, refl, ap, ◌∙◌, arith}
-use Rattle.hem_base.specs.declared.text.Token.{Token}
-use Rattle.hem_base.specs.Machine.{State, lexeme_of, full, next, run, state}
-use Rattle.hem_base.specs.Tokens.{tokens_of}
-use Rattle.hem_syntax.specs.declared.grammar.Terminal.{Terminal}
-use Rattle.hem_syntax.specs.declared.grammar.Item.{Item}
-use Rattle.hem_syntax.specs.Grammar.{start}
+use Rattle.hem_text.specs.declared.text.Token.{Token}
+use Rattle.hem_text.specs.Grammars.{State, lexeme_of, full, next, run, state}
+use Rattle.hem_text.specs.Tokens.{tokens_of}
+use Rattle.hem_grammar.specs.declared.terminals.Terminal.{Terminal}
+use Rattle.hem_grammar.specs.declared.terminals.Item.{Item}
+use Rattle.hem_grammar.specs.Grammar.{start}
 use Rattle.hem_syntax.specs.Protocol.{Protocol}
 use Rattle.hem_syntax.specs.Lawful.{IsProtocol}
-use Rattle.hem_syntax.specs.Reading.{Read, grammar, nothing}
-use Rattle.hem_syntax.specs.Canonical.{protocol_lines, protocol_text}
+use Rattle.hem_grammar.specs.Draft.{Read, grammar, nothing}
+use Rattle.hem_print.specs.Canonical.{protocol_lines, protocol_text}
 use Rattle.hem_print.specs.ReadsBack.{lexemes_of, ReadsBack}
 use Rattle.hem_print.proofs.Steps.{and_then_alike, go_runs}
 use Rattle.hem_print.proofs.RuleRuns.{words_of}

@@ -7,7 +7,7 @@ use Rattle.std.proofs.lemmas.List.Folds.{list_any-append}
 use Rattle.hem_syntax.specs.declared.rule.Rule.{Rule}
 use Rattle.hem_syntax.specs.Protocol.{Text}
 use Rattle.hem_syntax.specs.Lawful.{are_distinct, named_once, names_after}
-use Rattle.hem_syntax.specs.Reading.{place_in, with_rule_name}
+use Rattle.hem_grammar.specs.Draft.{place_in, with_rule_name}
 use Rattle.hem_print.proofs.Naming.{and_left, and_right, not_true, or_left, or_right, or_both, cond_true, cond_false, any_at, get_some, name_at, first_place, same_bytes, distinct_before}
 
 nowhere : {A : Type 0} (p : A → Bool) (xs : List A) → list_any p xs ≡ false → position p xs ≡ None

@@ -3,25 +3,25 @@ use Rattle.std.proofs.Common.{◌≡◌, ℕ, ◌+◌, ◌≤◌, true, ◌&&◌
 use Rattle.std.specs.Prelude.{flat_map}
 use Rattle.std.specs.List.{list_all}
 use Rattle.hem_base.specs.declared.words.Reserved.TheVariants as word
-use Rattle.hem_base.specs.declared.grammar.Symbol.{Symbol}
-use Rattle.hem_base.specs.declared.grammar.Symbol.TheVariants.{Item as Some_of, Maybe}
+use Rattle.hem_text.specs.declared.symbol.Symbol.{Symbol}
+use Rattle.hem_text.specs.declared.symbol.Symbol.TheVariants.{Item as Some_of, Maybe}
 use Rattle.hem_base.specs.declared.ids.RuleId.{RuleId}
-use Rattle.hem_base.specs.Machine.{state}
+use Rattle.hem_text.specs.Grammars.{state}
 use Rattle.hem_syntax.specs.declared.rule.Side.{Side}
 use Rattle.hem_syntax.specs.declared.rule.Origin.{Origin}
 use Rattle.hem_syntax.specs.declared.rule.SendTo.{SendTo}
 use Rattle.hem_syntax.specs.declared.rule.SendTo.TheVariants as sending
 use Rattle.hem_syntax.specs.declared.rule.Assign.{Assign}
 use Rattle.hem_syntax.specs.declared.rule.Rule.{Rule}
-use Rattle.hem_syntax.specs.declared.grammar.Terminal.{Terminal}
-use Rattle.hem_syntax.specs.declared.grammar.RulePart.TheVariants as rule
-use Rattle.hem_syntax.specs.declared.grammar.Item.{Item}
-use Rattle.hem_syntax.specs.declared.grammar.Item.TheVariants as item
-use Rattle.hem_syntax.specs.Grammar.{w, r}
+use Rattle.hem_grammar.specs.declared.terminals.Terminal.{Terminal}
+use Rattle.hem_grammar.specs.declared.terminals.RulePart.TheVariants as rule
+use Rattle.hem_grammar.specs.declared.terminals.Item.{Item}
+use Rattle.hem_grammar.specs.declared.terminals.Item.TheVariants as item
+use Rattle.hem_grammar.specs.Grammar.{w, r}
 use Rattle.hem_syntax.specs.Protocol.{Protocol, KindPart}
 use Rattle.hem_syntax.specs.Lawful.{counts_of, has_take, has_atom, has_assign, has_send, set_once, is_rule}
-use Rattle.hem_syntax.specs.Reading.{no_rule, hold_word}
-use Rattle.hem_syntax.specs.Canonical.{Word, plain, take_words, need_words, led, atom_words, assign_words, free_words, lock_words, send_words, rule_words, Line}
+use Rattle.hem_grammar.specs.Draft.{no_rule, hold_word}
+use Rattle.hem_print.specs.Canonical.{Word, plain, take_words, need_words, led, atom_words, assign_words, free_words, lock_words, send_words, rule_words, Line}
 use Rattle.hem_print.proofs.Steps.{go}
 use Rattle.hem_print.proofs.Naming.{and_left, and_right}
 use Rattle.hem_print.proofs.Around.{Around, env, AreNamed, GoesOn, sets, frees, locks, sends, ends}

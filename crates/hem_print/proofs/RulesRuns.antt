@@ -3,21 +3,21 @@ use Rattle.std.proofs.Common.{◌≡◌, ℕ, suc, ◌+◌, ◌<◌, ◌≤◌, 
 use Rattle.std.specs.Prelude.{unwrap_or}
 use Rattle.std.specs.List.{list_all, list_any}
 use Rattle.hem_base.specs.declared.words.Reserved.TheVariants as word
-use Rattle.hem_base.specs.declared.grammar.Symbol.{Symbol}
-use Rattle.hem_base.specs.declared.grammar.Symbol.TheVariants.{Many}
-use Rattle.hem_base.specs.Machine.{state}
+use Rattle.hem_text.specs.declared.symbol.Symbol.{Symbol}
+use Rattle.hem_text.specs.declared.symbol.Symbol.TheVariants.{Many}
+use Rattle.hem_text.specs.Grammars.{state}
 use Rattle.hem_base.specs.Words.{is_reserved, is_word_text}
 use Rattle.hem_syntax.specs.declared.rule.Rule.{Rule}
-use Rattle.hem_syntax.specs.declared.grammar.Terminal.{Terminal}
-use Rattle.hem_syntax.specs.declared.grammar.Terminal.TheVariants as the
-use Rattle.hem_syntax.specs.declared.grammar.RulePart.TheVariants as rule
-use Rattle.hem_syntax.specs.declared.grammar.Item.{Item}
-use Rattle.hem_syntax.specs.declared.grammar.Item.TheVariants as item
-use Rattle.hem_syntax.specs.Grammar.{r}
+use Rattle.hem_grammar.specs.declared.terminals.Terminal.{Terminal}
+use Rattle.hem_grammar.specs.declared.terminals.Terminal.TheVariants as the
+use Rattle.hem_grammar.specs.declared.terminals.RulePart.TheVariants as rule
+use Rattle.hem_grammar.specs.declared.terminals.Item.{Item}
+use Rattle.hem_grammar.specs.declared.terminals.Item.TheVariants as item
+use Rattle.hem_grammar.specs.Grammar.{r}
 use Rattle.hem_syntax.specs.Protocol.{Text, Protocol, KindPart}
 use Rattle.hem_syntax.specs.Lawful.{is_declarable, are_distinct, counts_of, is_rule, named_once, names_after}
-use Rattle.hem_syntax.specs.Reading.{no_rule, is_short, with_rule_name, place_in}
-use Rattle.hem_syntax.specs.Canonical.{Word, plain, named, rule_words, rule_name, rule_line}
+use Rattle.hem_grammar.specs.Draft.{no_rule, is_short, with_rule_name, place_in}
+use Rattle.hem_print.specs.Canonical.{Word, plain, named, rule_words, rule_name, rule_line}
 use Rattle.hem_print.proofs.Steps.{go, pick, skip}
 use Rattle.hem_print.proofs.Naming.{and_left, and_right, not_false, cond_true, all_at, get_some, name_at}
 use Rattle.hem_print.proofs.Around.{Around, env, AreNamed}

@@ -2,9 +2,9 @@
 use Rattle.std.proofs.Common.{◌≡◌, ℕ, ◌≤◌, true, not, ◌==◌, List, [], ◌∷◌, ◌++◌, length, refl, sym, ap, ◌∙◌, arith, Option, Some, None, append_assoc, nat_lt, ltb-true}
 use Rattle.hem_base.specs.declared.ids.MsgId.{MsgId}
 use Rattle.hem_base.specs.declared.words.Reserved.TheVariants as word
-use Rattle.hem_base.specs.declared.grammar.Symbol.{Symbol}
-use Rattle.hem_base.specs.declared.grammar.Symbol.TheVariants.{Item as Some_of, Maybe, Many}
-use Rattle.hem_base.specs.Machine.{state}
+use Rattle.hem_text.specs.declared.symbol.Symbol.{Symbol}
+use Rattle.hem_text.specs.declared.symbol.Symbol.TheVariants.{Item as Some_of, Maybe, Many}
+use Rattle.hem_text.specs.Grammars.{state}
 use Rattle.hem_syntax.specs.declared.rule.Hold.{Hold}
 use Rattle.hem_syntax.specs.declared.rule.Hold.TheVariants as hold
 use Rattle.hem_syntax.specs.declared.rule.Side.{Side}
@@ -18,17 +18,17 @@ use Rattle.hem_syntax.specs.declared.rule.Take.TheVariants as take
 use Rattle.hem_syntax.specs.declared.rule.SendTo.{SendTo}
 use Rattle.hem_syntax.specs.declared.rule.SendTo.TheVariants as sending
 use Rattle.hem_syntax.specs.declared.rule.Rule.{Rule}
-use Rattle.hem_syntax.specs.declared.grammar.Terminal.{Terminal}
-use Rattle.hem_syntax.specs.declared.grammar.Terminal.TheVariants as the
-use Rattle.hem_syntax.specs.declared.grammar.RulePart.TheVariants as rule
-use Rattle.hem_syntax.specs.declared.grammar.SendPart.TheVariants as send
-use Rattle.hem_syntax.specs.declared.grammar.Item.{Item}
-use Rattle.hem_syntax.specs.declared.grammar.Item.TheVariants as item
-use Rattle.hem_syntax.specs.Grammar.{w, r, t}
+use Rattle.hem_grammar.specs.declared.terminals.Terminal.{Terminal}
+use Rattle.hem_grammar.specs.declared.terminals.Terminal.TheVariants as the
+use Rattle.hem_grammar.specs.declared.terminals.RulePart.TheVariants as rule
+use Rattle.hem_grammar.specs.declared.terminals.SendPart.TheVariants as send
+use Rattle.hem_grammar.specs.declared.terminals.Item.{Item}
+use Rattle.hem_grammar.specs.declared.terminals.Item.TheVariants as item
+use Rattle.hem_grammar.specs.Grammar.{w, r, t}
 use Rattle.hem_syntax.specs.Protocol.{Protocol, KindPart}
 use Rattle.hem_syntax.specs.Lawful.{counts_of, has_take, has_send, has_set}
-use Rattle.hem_syntax.specs.Reading.{no_message, no_status, send_with_message, send_with_value, hold_word, side_word, origin_word}
-use Rattle.hem_syntax.specs.Canonical.{Word, plain, named, value_word, take_words, free_words, lock_words, message_words, send_words, set_words, message_name}
+use Rattle.hem_grammar.specs.Draft.{no_message, no_status, send_with_message, send_with_value, hold_word, side_word, origin_word}
+use Rattle.hem_print.specs.Canonical.{Word, plain, named, value_word, take_words, free_words, lock_words, message_words, send_words, set_words, message_name}
 use Rattle.hem_print.proofs.Steps.{go, picks, pick, skip}
 use Rattle.hem_print.proofs.Naming.{and_left, and_right, cond_true}
 use Rattle.hem_print.proofs.SetRuns.{Fills, set_run}

@@ -6,17 +6,18 @@ use Rattle.std.proofs.lemmas.Nat.Bits.{bit_at_above, bit_at_or}
 use Rattle.hem_base.specs.Sets.{has_bit}
 use Rattle.hem_base.specs.declared.ids.Status8.{Status8}
 use Rattle.hem_base.specs.declared.ids.StatusSet.{StatusSet}
-use Rattle.hem_base.specs.declared.grammar.Symbol.{Symbol}
-use Rattle.hem_base.specs.declared.grammar.Symbol.TheVariants.{One, Many}
-use Rattle.hem_base.specs.declared.text.TokenKind.{TokenKind}
-use Rattle.hem_base.specs.Machine.{state}
-use Rattle.hem_syntax.specs.declared.grammar.Terminal.{Terminal}
-use Rattle.hem_syntax.specs.declared.grammar.Item.{Item}
-use Rattle.hem_syntax.specs.Grammar.{follows, firsts}
+use Rattle.hem_text.specs.declared.symbol.Symbol.{Symbol}
+use Rattle.hem_text.specs.declared.symbol.Symbol.TheVariants.{One, Many}
+use Rattle.hem_text.specs.declared.text.TokenKind.{TokenKind}
+use Rattle.hem_text.specs.Grammars.{state}
+use Rattle.hem_grammar.specs.declared.terminals.Terminal.{Terminal}
+use Rattle.hem_grammar.specs.declared.terminals.Item.{Item}
+use Rattle.hem_grammar.specs.Grammar.{follows, firsts}
 use Rattle.hem_syntax.specs.Protocol.{Text}
 use Rattle.hem_syntax.specs.Lawful.{are_distinct}
-use Rattle.hem_syntax.specs.Reading.{Read, is_word, is_in, place_in, bit, with_status, no_status, spells, is_fresh, is_within, after}
-use Rattle.hem_syntax.specs.Canonical.{Word, named, word_kind, spelling, names_in}
+use Rattle.hem_grammar.specs.Draft.{Read, is_in, place_in, bit, with_status, no_status, spells, is_fresh, is_within, after}
+use Rattle.hem_text.specs.Spelling.{is_word}
+use Rattle.hem_print.specs.Canonical.{Word, named, word_kind, spelling, names_in}
 use Rattle.hem_print.proofs.Steps.{go, picks, pick, skip}
 use Rattle.hem_print.proofs.Naming.{name_at, place_of_name, name_known, cond_true, cond_false}
 

@@ -13,7 +13,7 @@ use Rattle.hem_syntax.specs.declared.rule.SendTo.TheVariants as send
 use Rattle.hem_syntax.specs.declared.rule.Rule.{Rule}
 use Rattle.hem_syntax.specs.Protocol.{Protocol}
 use Rattle.hem_syntax.specs.Lawful.{IsProtocol}
-use Rattle.hem_syntax.specs.Canonical.{protocol_text}
+use Rattle.hem_print.specs.Canonical.{protocol_text}
 use Rattle.hem_print.specs.ReadsBack.{ReadsBack}
 use Rattle.hem_print.proofs.Reading.{reads_back}
 

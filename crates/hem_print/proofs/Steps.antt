@@ -3,14 +3,14 @@ use Rattle.std.proofs.Common.{◌≡◌, Bool, true, false, cond, ◌&&◌, List
 use Rattle.std.specs.Prelude.{find, option_and_then, option_map}
 use Rattle.std.specs.Option.{option_or}
 use Rattle.std.proofs.lemmas.List.Folds.{find-append}
-use Rattle.hem_base.specs.declared.grammar.Symbol.{Symbol}
-use Rattle.hem_base.specs.Machine.{Lexeme, lexeme, State, full, state, way_into, ways, takes, way_at, heads, past, can_pass, goes, next, run}
-use Rattle.hem_base.specs.Tokens.{start_place}
-use Rattle.hem_syntax.specs.declared.grammar.Terminal.{Terminal}
-use Rattle.hem_syntax.specs.declared.grammar.Item.{Item}
-use Rattle.hem_syntax.specs.Grammar.{follows}
-use Rattle.hem_syntax.specs.Reading.{Read, grammar, spells, is_fresh, is_within, after}
-use Rattle.hem_syntax.specs.Canonical.{Word, word_kind, spelling}
+use Rattle.hem_text.specs.declared.symbol.Symbol.{Symbol}
+use Rattle.hem_text.specs.Grammars.{Lexeme, lexeme, State, full, state, way_into, ways, takes, way_at, heads, past, can_pass, goes, next, run}
+use Rattle.hem_text.specs.Tokens.{start_place}
+use Rattle.hem_grammar.specs.declared.terminals.Terminal.{Terminal}
+use Rattle.hem_grammar.specs.declared.terminals.Item.{Item}
+use Rattle.hem_grammar.specs.Grammar.{follows}
+use Rattle.hem_grammar.specs.Draft.{Read, grammar, spells, is_fresh, is_within, after}
+use Rattle.hem_print.specs.Canonical.{Word, word_kind, spelling}
 
 -- a word as a token of the first place
 abbrev pub lex : Word → Lexeme

@@ -1,11 +1,11 @@
 -- What it means that a protocol's canonical text reads as that protocol.
 use Rattle.std.specs.Prelude.{◌≡◌, List, map, length}
-use Rattle.hem_base.specs.Machine.{Lexeme, lexeme_of, state, Reads}
-use Rattle.hem_base.specs.Tokens.{tokens_of}
-use Rattle.hem_syntax.specs.Grammar.{start}
+use Rattle.hem_text.specs.Grammars.{Lexeme, lexeme_of, state, Reads}
+use Rattle.hem_text.specs.Tokens.{tokens_of}
+use Rattle.hem_grammar.specs.Grammar.{start}
 use Rattle.hem_syntax.specs.Protocol.{Text, Protocol}
-use Rattle.hem_syntax.specs.Reading.{Read, grammar, nothing, protocol_of}
-use Rattle.hem_syntax.specs.Canonical.{protocol_text}
+use Rattle.hem_grammar.specs.Draft.{Read, grammar, nothing, protocol_of}
+use Rattle.hem_print.specs.Canonical.{protocol_text}
 
 -- the tokens of a text, with their bytes
 abbrev pub lexemes_of : Text → List Lexeme

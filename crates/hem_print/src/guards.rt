@@ -3,7 +3,7 @@
 ghost use Rattle.std.specs.Prelude.{◌≡◌, [], ◌∷◌, ◌++◌, OnOk};
 ghost use Rattle.hem_base.specs.declared.words.Reserved.TheVariants.{When, Set};
 ghost use Rattle.hem_base.specs.declared.words.Sign.TheVariants as sign;
-ghost use Rattle.hem_syntax.specs.Canonical.{plain, signed, words_text, led, atom_words, assign_words};
+ghost use Rattle.hem_print.specs.Canonical.{plain, signed, words_text, led, atom_words, assign_words};
 
 use crate::output::Output;
 use hem_base::{OutOfMemory, Reserved};

@@ -2,8 +2,8 @@
 
 ghost use Rattle.std.specs.Prelude.{◌≡◌, [], ◌∷◌, ◌++◌, OnOk};
 ghost use Rattle.hem_base.specs.Sets.{has_bit};
-ghost use Rattle.hem_syntax.specs.Reading.{class_word, hold_word, side_word, origin_word};
-ghost use Rattle.hem_syntax.specs.Canonical.{named, words_text, status_name, message_name, rule_name, field_name, set_words, value_word};
+ghost use Rattle.hem_grammar.specs.Draft.{class_word, hold_word, side_word, origin_word};
+ghost use Rattle.hem_print.specs.Canonical.{named, words_text, status_name, message_name, rule_name, field_name, set_words, value_word};
 
 use crate::output::Output;
 use hem_base::{MsgId, OutOfMemory, Reserved, RuleId, Status8, StatusSet};

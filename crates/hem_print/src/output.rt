@@ -2,7 +2,7 @@
 
 ghost use Rattle.std.specs.Prelude.{◌≡◌, [], ◌∷◌, ◌++◌, OnOk, IsUtf8, codes, string_bytes};
 ghost use Rattle.hem_base.specs.Words.{word_bytes};
-ghost use Rattle.hem_syntax.specs.Canonical.{plain, named, words_text};
+ghost use Rattle.hem_print.specs.Canonical.{plain, named, words_text};
 
 use hem_base::{OutOfMemory, Reserved, word_bytes};
 use std::alloc::Global;

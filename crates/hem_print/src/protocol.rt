@@ -1,7 +1,7 @@
 //! Protocols.
 
 ghost use Rattle.std.specs.Prelude.{◌≡◌, ◌++◌, OnOk, IfOk, map, option_to_list, slice_get, string_bytes};
-ghost use Rattle.hem_syntax.specs.Canonical.{named, words_text, line_text, lines_text, message_line, declaration_lines, protocol_text};
+ghost use Rattle.hem_print.specs.Canonical.{named, words_text, line_text, lines_text, message_line, declaration_lines, protocol_text};
 
 use crate::names::class_word;
 use crate::output::Output;

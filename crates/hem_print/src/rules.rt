@@ -1,7 +1,7 @@
 //! Rules and what else a kind says.
 
 ghost use Rattle.std.specs.Prelude.{◌≡◌, ◌++◌, OnOk, map};
-ghost use Rattle.hem_syntax.specs.Canonical.{words_text, line_text, lines_text, rule_words, rule_line, field_line, dir_lines, kind_lines};
+ghost use Rattle.hem_print.specs.Canonical.{words_text, line_text, lines_text, rule_words, rule_line, field_line, dir_lines, kind_lines};
 
 use crate::output::Output;
 use hem_base::{Name, OutOfMemory, Reserved, Status8};

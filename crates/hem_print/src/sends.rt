@@ -2,7 +2,7 @@
 
 ghost use Rattle.std.specs.Prelude.{◌≡◌, ◌∷◌, ◌++◌, OnOk};
 ghost use Rattle.hem_base.specs.declared.words.Reserved.TheVariants.{In, Send};
-ghost use Rattle.hem_syntax.specs.Canonical.{plain, words_text, set_words, take_words, need_words, free_words, lock_words, message_words, send_words};
+ghost use Rattle.hem_print.specs.Canonical.{plain, words_text, set_words, take_words, need_words, free_words, lock_words, message_words, send_words};
 
 use crate::names::{hold_word, origin_word, side_word};
 use crate::output::Output;

@@ -6,11 +6,11 @@ use Rattle.hem_base.specs.declared.ids.Message.{Message}
 use Rattle.hem_base.specs.declared.ids.Firing.{Firing}
 use Rattle.hem_base.specs.declared.ids.Kind.TheVariants.{Root, Mid, Leaf}
 use Rattle.hem_syntax.specs.declared.rule.Class.TheVariants.{ExtReq, ExtRsp, DownReq}
-use Rattle.hem_syntax.specs.declared.state.By.{By}
-use Rattle.hem_syntax.specs.declared.state.By.TheVariants.{Processor, Kid, Parent, Own}
-use Rattle.hem_syntax.specs.declared.state.Lock.{Lock}
+use Rattle.hem_object.specs.declared.state.By.{By}
+use Rattle.hem_object.specs.declared.state.By.TheVariants.{Processor, Kid, Parent, Own}
+use Rattle.hem_object.specs.declared.state.Lock.{Lock}
 use Rattle.hem_syntax.specs.Protocol.{Protocol, empty_part}
-use Rattle.hem_syntax.specs.Local.{Local}
+use Rattle.hem_object.specs.Local.{Local}
 use Rattle.hem_tree.specs.Tree.{Tree}
 use Rattle.hem_system.specs.State.{Cell, State}
 use Rattle.hem_system.specs.declared.lane.Lane.TheVariants.{UpResponses, Answers}

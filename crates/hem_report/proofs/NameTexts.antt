@@ -8,7 +8,7 @@ use Rattle.std.specs.Option.{option_map_or}
 use Rattle.std.specs.List.{list_all}
 use Rattle.std.specs.Str.{IsAscii}
 use Rattle.std.specs.Char.{is_ascii_alphabetic}
-use Rattle.hem_base.specs.Tokens.{is_word_byte}
+use Rattle.hem_base.specs.Words.{is_word_byte}
 use Rattle.hem_base.specs.Words.{is_word_text}
 use Rattle.hem_base.specs.declared.ids.Status8.{Status8}
 use Rattle.hem_base.specs.declared.ids.Kind.{Kind}

@@ -8,11 +8,11 @@ use Rattle.hem_base.specs.declared.ids.KidSet.{KidSet}
 use Rattle.hem_base.specs.declared.ids.ObjectId.{ObjectId}
 use Rattle.hem_base.specs.declared.ids.Kind.{Kind}
 use Rattle.hem_base.specs.declared.ids.Kind.TheVariants.{Root, Mid, Leaf}
-use Rattle.hem_syntax.specs.declared.state.By.{By}
-use Rattle.hem_syntax.specs.declared.state.By.TheVariants.{Processor, Kid, Parent, Own}
-use Rattle.hem_syntax.specs.declared.state.Lock.{Lock}
+use Rattle.hem_object.specs.declared.state.By.{By}
+use Rattle.hem_object.specs.declared.state.By.TheVariants.{Processor, Kid, Parent, Own}
+use Rattle.hem_object.specs.declared.state.Lock.{Lock}
 use Rattle.hem_syntax.specs.Protocol.{Protocol, Text, part}
-use Rattle.hem_syntax.specs.Local.{Local}
+use Rattle.hem_object.specs.Local.{Local}
 use Rattle.hem_report.specs.Texts.{text_of_each, status_text, message_text}
 
 -- the numbers of objects

@@ -3,7 +3,7 @@ use Rattle.std.specs.Prelude.{ℕ, cond, List, [], ◌∷◌, ◌++◌, flat_map
 use Rattle.std.specs.Option.{option_map_or}
 use Rattle.hem_base.specs.declared.ids.Message.{Message}
 use Rattle.hem_syntax.specs.Protocol.{Protocol, Text}
-use Rattle.hem_syntax.specs.Local.{Local}
+use Rattle.hem_object.specs.Local.{Local}
 use Rattle.hem_tree.specs.Tree.{Tree, kind_of, children_of}
 use Rattle.hem_system.specs.State.{State, Line, Cell, list_of}
 use Rattle.hem_system.specs.declared.lane.Lane.{Lane}

@@ -6,7 +6,8 @@ ghost use Rattle.hem_report.specs.LocalText.{numbers_of, origin_text, held_text,
 
 use crate::output::Output;
 use hem_base::{KidSet, ObjectId, OutOfMemory};
-use hem_syntax::{By, Lock, Protocol};
+use hem_object::{By, Lock};
+use hem_syntax::Protocol;
 
 impl Output {
     /// Appends the number of the child at a place.

@@ -1,9 +1,3 @@
 pub mod Protocol
 pub mod Lawful
 pub mod Names
-pub mod Local
-pub mod Guard
-pub mod Template
-pub mod Grammar
-pub mod Reading
-pub mod Canonical

@@ -1,19 +1,13 @@
-//! Protocols as plain values, and the definitions that all contracts cite.
+//! Protocols as plain values, their look-ups, and what every protocol keeps.
 #![tactic(auto)]
 
-mod grammar;
 mod names;
 mod protocol;
 mod rule;
-mod state;
 
-pub use grammar::{AssignPart, AtomPart, Item, Part, RulePart, SendPart, Terminal};
 pub use names::{Named, Names};
 pub use protocol::{KindPart, Protocol};
-pub use rule::{
-    Assign, Atom, Class, Clause, Hold, Need, Origin, Rule, SendTo, Side, Take, TemplateName, Value,
-};
-pub use state::{By, Lock, View};
+pub use rule::{Assign, Atom, Class, Hold, Need, Origin, Rule, SendTo, Side, Take, Value};
 
 #[cfg(test)]
 mod tests;

@@ -9,7 +9,7 @@ use Rattle.hem_base.specs.declared.ids.ObjectId.{ObjectId}
 use Rattle.hem_base.specs.declared.ids.Message.{Message}
 use Rattle.hem_syntax.specs.declared.rule.Rule.{Rule}
 use Rattle.hem_syntax.specs.Protocol.{Protocol, rule_named}
-use Rattle.hem_syntax.specs.Local.{Local}
+use Rattle.hem_object.specs.Local.{Local}
 use Rattle.hem_fire.specs.OneFire.{Heads, can_fire}
 use Rattle.hem_tree.specs.Tree.{Tree, kind_of, children_of}
 use Rattle.hem_system.specs.declared.cell.Cell.{Cell as Kept}

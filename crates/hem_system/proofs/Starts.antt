@@ -7,7 +7,7 @@ use Rattle.hem_base.specs.declared.ids.Kind.{Kind}
 use Rattle.hem_base.specs.declared.ids.Kind.TheVariants.{Root}
 use Rattle.hem_base.specs.declared.ids.Message.{Message}
 use Rattle.hem_syntax.specs.Protocol.{Protocol}
-use Rattle.hem_syntax.specs.Local.{Local}
+use Rattle.hem_object.specs.Local.{Local}
 use Rattle.hem_object.specs.Start.{first_local}
 use Rattle.hem_tree.specs.Tree.{Tree, Node, kind_of, children_of, below}
 use Rattle.hem_system.specs.declared.cell.Cell.{Cell as Kept}

@@ -11,7 +11,7 @@ use Rattle.hem_syntax.specs.declared.rule.Rule.{Rule}
 use Rattle.hem_syntax.specs.declared.rule.Take.{Take}
 use Rattle.hem_syntax.specs.declared.rule.Take.TheVariants as take
 use Rattle.hem_syntax.specs.Protocol.{Protocol, rule_named}
-use Rattle.hem_syntax.specs.Local.{Local}
+use Rattle.hem_object.specs.Local.{Local}
 use Rattle.hem_fire.specs.declared.outs.Outs.{Outs}
 use Rattle.hem_fire.specs.Heads.{awaited_of, awaited_heads}
 use Rattle.hem_fire.specs.OneFire.{Heads, can_fire, local_after, outs_of}

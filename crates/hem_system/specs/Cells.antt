@@ -1,7 +1,7 @@
 -- The state of what is kept: lists with room to spare, or without.
 use Rattle.std.specs.Prelude.{List, [], map}
 use Rattle.hem_base.specs.declared.ids.Message.{Message}
-use Rattle.hem_syntax.specs.Local.{Local}
+use Rattle.hem_object.specs.Local.{Local}
 use Rattle.hem_system.specs.declared.cell.Cell.{Cell as Kept}
 use Rattle.hem_system.specs.State.{Cell, Line, State}
 

@@ -2,7 +2,7 @@
 use Rattle.std.specs.Prelude.{◌==◌, Bool, ◌&&◌, List, length, is_none}
 use Rattle.std.specs.List.{list_all}
 use Rattle.hem_base.specs.declared.ids.Message.{Message}
-use Rattle.hem_syntax.specs.Local.{Local}
+use Rattle.hem_object.specs.Local.{Local}
 use Rattle.hem_system.specs.State.{State, Cell}
 
 -- whether a list holds no message

@@ -15,7 +15,7 @@ use Rattle.hem_system.specs.declared.lane.Lane.TheVariants.{UpRequests, UpRespon
 use Rattle.hem_syntax.specs.Protocol.{Protocol, rule_named}
 use Rattle.hem_tree.specs.Tree.{Tree, Node, below, kind_of, parent_of, is_child, children_of, place_among}
 use Rattle.hem_work.specs.Work.{Work, requests_of}
-use Rattle.hem_syntax.specs.Local.{Local}
+use Rattle.hem_object.specs.Local.{Local}
 use Rattle.hem_object.specs.Start.{first_local}
 use Rattle.hem_fire.specs.OneFire.{Heads, can_fire, local_after, outs_of}
 

@@ -1,7 +1,7 @@
 //! Making a firing on a line.
 
 ghost use Rattle.std.specs.Prelude.{◌≡◌, ◌≢◌, ◌<◌, ℕ, length, slice_get, Some, None, Err, IsTrue, is_ok, is_some, OnOk, OnErr, ◌↔◌};
-ghost use Rattle.hem_syntax.specs.Local.{Local};
+ghost use Rattle.hem_object.specs.Local.{Local};
 ghost use Rattle.hem_fire.specs.OneFire.{can_fire, outs_of};
 ghost use Rattle.hem_system.specs.declared.cell.Cell.{Cell as Kept};
 ghost use Rattle.hem_system.specs.State.{map_each, effect_of};

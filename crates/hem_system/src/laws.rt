@@ -3,7 +3,7 @@
 ghost use Rattle.std.specs.Prelude.{◌≡◌, ℕ, List, true, Some};
 ghost use Rattle.hem_base.specs.declared.ids.Firing.{Firing};
 ghost use Rattle.hem_syntax.specs.Protocol.{Protocol};
-ghost use Rattle.hem_syntax.specs.Local.{Local};
+ghost use Rattle.hem_object.specs.Local.{Local};
 ghost use Rattle.hem_fire.specs.declared.outs.To.{To};
 ghost use Rattle.hem_fire.specs.declared.outs.Outs.{Outs};
 ghost use Rattle.hem_fire.specs.OneFire.{Heads};

@@ -1,7 +1,7 @@
 //! Where a firing is possible.
 
 ghost use Rattle.std.specs.Prelude.{◌≡◌, ◌<◌, ◌≤◌, length, map, is_some, option_and_then, Some, IsSome, IfSome};
-ghost use Rattle.hem_syntax.specs.Local.{Local};
+ghost use Rattle.hem_object.specs.Local.{Local};
 ghost use Rattle.hem_fire.specs.OneFire.{Heads};
 ghost use Rattle.hem_tree.specs.Tree.{children_of};
 ghost use Rattle.hem_system.specs.State.{head_at, request_head, heads_of, own_effect, rule_effect, effect_of};

@@ -10,7 +10,8 @@ use Rattle.hem_template.specs.declared.row.Sending.TheVariants as sending
 use Rattle.std.specs.Prelude.{Bool, true}
 use Rattle.hem_syntax.specs.declared.rule.Assign.{Assign}
 use Rattle.hem_syntax.specs.declared.rule.Assign.TheVariants as assign
-use Rattle.hem_syntax.specs.Template.{has_class, is_ext_req, is_ext_rsp, is_up_req, is_down_rsp, Row, value_fits, Taking, nothing_taken, from_me, parent_request, parent_response, from_kids, Sending, nothing_sent, to_me, request_up, response_up, to_others, to_kids}
+use Rattle.hem_template.specs.Template.{Row, value_fits, Taking, nothing_taken, from_me, parent_request, parent_response, from_kids, Sending, nothing_sent, to_me, request_up, response_up, to_others, to_kids}
+use Rattle.hem_syntax.specs.Protocol.{has_class, is_ext_req, is_ext_rsp, is_up_req, is_down_rsp}
 
 -- whether what is taken from the requester has the class of the kind
 abbrev pub request_fits : Protocol → Kind → MsgId → Bool

@@ -2,7 +2,8 @@
 
 ghost use Rattle.std.specs.Prelude.{◌≡◌};
 ghost use Rattle.hem_syntax.specs.Protocol.{is_request};
-ghost use Rattle.hem_syntax.specs.Template.{has_class, is_ext_req, is_ext_rsp, is_up_req, is_up_rsp, is_down_req, is_down_rsp, take_class_fits, send_class_fits, class_fits};
+ghost use Rattle.hem_template.specs.Template.{take_class_fits, send_class_fits, class_fits};
+ghost use Rattle.hem_syntax.specs.Protocol.{has_class, is_ext_req, is_ext_rsp, is_up_req, is_up_rsp, is_down_req, is_down_rsp};
 ghost use Rattle.hem_template.specs.Rows.{request_fits, answer_fits};
 
 use hem_base::{Kind, MsgId};

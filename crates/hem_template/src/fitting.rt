@@ -1,7 +1,7 @@
 //! The template of a rule.
 
 ghost use Rattle.std.specs.Prelude.{◌≡◌};
-ghost use Rattle.hem_syntax.specs.Template.{fitted, template_of};
+ghost use Rattle.hem_template.specs.Template.{fitted, template_of};
 
 use crate::class::class_fits;
 use crate::level::level_fits;
@@ -10,7 +10,8 @@ use crate::row::row_of;
 use crate::scope::{locks_fit, scope_fits, silent_fits};
 use crate::shape::shape_of;
 use hem_base::Kind;
-use hem_syntax::{Clause, Protocol, Rule, TemplateName};
+use crate::{Clause, TemplateName};
+use hem_syntax::{Protocol, Rule};
 
 /// The template whose shape the rule has, or the first of the clauses that are left that the rule fails.
 fn fitted(p: &Protocol, kind: Kind, rule: &Rule, name: TemplateName) -> Result<TemplateName, Clause>

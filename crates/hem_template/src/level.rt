@@ -1,7 +1,7 @@
 //! The first clause: the root has no parent, and a leaf has no children.
 
 ghost use Rattle.std.specs.Prelude.{◌≡◌};
-ghost use Rattle.hem_syntax.specs.Template.{level_fits};
+ghost use Rattle.hem_template.specs.Template.{level_fits};
 
 use hem_base::Kind;
 use hem_syntax::{Rule, SendTo, Take};

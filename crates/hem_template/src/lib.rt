@@ -2,12 +2,15 @@
 #![tactic(auto)]
 
 mod class;
+mod clause;
 mod fitting;
 mod level;
 mod names;
 mod row;
 mod scope;
 mod shape;
+mod template_name;
 
+pub use clause::Clause;
 pub use fitting::template;
-pub use hem_syntax::{Clause, TemplateName};
+pub use template_name::TemplateName;

@@ -3,7 +3,7 @@
 ghost use Rattle.std.specs.Prelude.{◌≡◌, true};
 ghost use Rattle.std.specs.List.{list_all};
 ghost use Rattle.std.specs.Option.{option_map_or};
-ghost use Rattle.hem_syntax.specs.Template.{value_sent, values_of, has_me, has_kept, has_msg, has_rs, is_leaf, atom_fits, value_fits, set_fits, names_fit};
+ghost use Rattle.hem_template.specs.Template.{value_sent, values_of, has_me, has_kept, has_msg, has_rs, is_leaf, atom_fits, value_fits, set_fits, names_fit};
 ghost use Rattle.hem_template.specs.Rows.{taking_meant, set_value_fits};
 
 use crate::class::is_request_id;

@@ -4,10 +4,11 @@ ghost use Rattle.std.specs.Prelude.{◌≡◌};
 ghost use Rattle.std.specs.Prelude.{true, false, None, Some};
 ghost use Rattle.hem_syntax.specs.declared.rule.Hold.TheVariants.{Any, Free};
 ghost use Rattle.hem_syntax.specs.declared.rule.Side.TheVariants.{Up, Down};
-ghost use Rattle.hem_syntax.specs.Template.{row_of, parent_response, from_kids};
+ghost use Rattle.hem_template.specs.Template.{row_of, parent_response, from_kids};
 ghost use Rattle.hem_template.specs.Rows.{taking_meant, sending_meant};
 
-use hem_syntax::{Hold, Origin, Side, TemplateName};
+use hem_syntax::{Hold, Origin, Side};
+use crate::TemplateName;
 use std::marker::Model;
 
 /// What a template takes.
@@ -44,7 +45,7 @@ pub(crate) struct Row {
 }
 
 impl Model for Row {
-    ghost use Rattle.hem_syntax.specs.Template.{Row as Described};
+    ghost use Rattle.hem_template.specs.Template.{Row as Described};
     ghost use Rattle.hem_template.specs.Rows.{taking_meant, sending_meant};
 
     ghost Value = { Described };

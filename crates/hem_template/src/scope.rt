@@ -2,10 +2,11 @@
 
 ghost use Rattle.std.specs.Prelude.{◌≡◌};
 ghost use Rattle.std.specs.List.{list_any};
-ghost use Rattle.hem_syntax.specs.Template.{same_hold, locks_fit, silent_fits, reads_me, guard_sees_me, scope_fits};
+ghost use Rattle.hem_template.specs.Template.{same_hold, locks_fit, silent_fits, reads_me, guard_sees_me, scope_fits};
 
 use crate::row::Row;
-use hem_syntax::{Atom, Hold, Rule, TemplateName};
+use hem_syntax::{Atom, Hold, Rule};
+use crate::TemplateName;
 
 /// Whether two needs are the same.
 pub(crate) fn same_hold(a: Hold, b: Hold) -> bool

@@ -2,12 +2,13 @@
 
 ghost use Rattle.std.specs.Prelude.{◌≡◌, ◌&&◌, find};
 ghost use Rattle.std.specs.Option.{option_eq};
-ghost use Rattle.hem_syntax.specs.Template.{is_taking, is_sending, same_side, same_origin, has_shape, shape_of};
+ghost use Rattle.hem_template.specs.Template.{is_taking, is_sending, same_side, same_origin, has_shape, shape_of};
 ghost use Rattle.hem_template.specs.Rows.{taking_meant, sending_meant};
 
 use crate::class::{is_down_req, is_down_rsp, is_up_req, is_up_rsp};
 use crate::row::{Row, Sending, TEMPLATES, Taking, row_of};
-use hem_syntax::{Origin, Protocol, Rule, SendTo, Side, Take, TemplateName};
+use hem_syntax::{Origin, Protocol, Rule, SendTo, Side, Take};
+use crate::TemplateName;
 
 /// Whether what a rule takes is what the row takes.
 fn is_taking(p: &Protocol, take: Take, taking: Taking) -> bool

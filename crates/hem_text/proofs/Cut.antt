@@ -3,11 +3,11 @@ use Rattle.std.proofs.Common.{◌≡◌, ℕ, zero, suc, ◌+◌, ◌-◌, ◌<�
 use Rattle.std.specs.Prelude.{fold}
 use Rattle.std.proofs.Common.{subst}
 use Rattle.std.proofs.lemmas.List.{length-drop, drop-drop}
-use Rattle.hem_base.specs.declared.text.Token.{Token}
-use Rattle.hem_base.specs.declared.text.Place.{Place}
-use Rattle.hem_base.specs.declared.text.TokenKind.{TokenKind}
-use Rattle.hem_base.specs.declared.text.Piece.{Piece}
-use Rattle.hem_base.specs.Tokens.{tokens_from, piece_of, with_token, advance}
+use Rattle.hem_text.specs.declared.text.Token.{Token}
+use Rattle.hem_text.specs.declared.text.Place.{Place}
+use Rattle.hem_text.specs.declared.text.TokenKind.{TokenKind}
+use Rattle.hem_text.specs.declared.text.Piece.{Piece}
+use Rattle.hem_text.specs.Tokens.{tokens_from, piece_of, with_token, advance}
 
 -- what is still to pass of a piece
 pub tokens_from-pass : (n at : ℕ) (place : Place) (bs : List ℕ) → tokens_from n at place bs ≡ tokens_from 0 (at + n) (fold advance place (take n bs)) (drop n bs)

@@ -3,13 +3,13 @@ use Rattle.std.proofs.Common.{◌≡◌, ◌≢◌, ℕ, ◌+◌, ◌-◌, ◌<�
 use Rattle.std.specs.Prelude.{map, slice_get}
 use Rattle.std.proofs.lemmas.List.{get_or-drop, length-drop, length-map}
 use Rattle.std.proofs.lemmas.Option.{slice_get-map, slice_get-get_or}
-use Rattle.hem_base.specs.declared.text.Token.{Token}
-use Rattle.hem_base.specs.Tokens.{end_place}
-use Rattle.hem_base.specs.declared.text.Cause.TheVariants.{Expected}
+use Rattle.hem_text.specs.declared.text.Token.{Token}
+use Rattle.hem_text.specs.Tokens.{end_place}
+use Rattle.hem_text.specs.declared.text.Cause.TheVariants.{Expected}
 use Rattle.hem_text.specs.declared.machine.Refusal.{Refusal}
 use Rattle.hem_text.specs.declared.machine.Refusal.TheVariants as refusal
 use Rattle.hem_text.specs.declared.reader.TextError.TheVariants.{Text}
-use Rattle.hem_base.specs.Machine.{Grammar, State, Lexeme, lexeme_of, next, run, full, state, Reads}
+use Rattle.hem_text.specs.Grammars.{Grammar, State, Lexeme, lexeme_of, next, run, full, state, Reads}
 use Rattle.hem_text.specs.Refused.{IsRefused}
 use Rattle.hem_text.specs.Faults.{IsFirstFault, ReadsOnly, refused_at}
 use Rattle.hem_text.proofs.Runs.{one_more, fault_at, fault_at_end, past_end, fault_excludes, fault_once, reads_once}

@@ -1,11 +1,11 @@
 -- The tokens of a text stand in order.
 use Rattle.std.proofs.Common.{◌≡◌, ℕ, zero, suc, ◌+◌, ◌-◌, ◌≤◌, List, [], ◌∷◌, arith, Option, Some, None}
 use Rattle.std.proofs.Common.{subst, sym}
-use Rattle.hem_base.specs.declared.text.Token.{Token}
-use Rattle.hem_base.specs.declared.text.Place.{Place}
-use Rattle.hem_base.specs.declared.text.TokenKind.{TokenKind}
-use Rattle.hem_base.specs.Tokens.{tokens_from, tokens_of, start_place, piece_of, advance}
-use Rattle.hem_base.specs.Spans.{StandFrom, StandInOrder}
+use Rattle.hem_text.specs.declared.text.Token.{Token}
+use Rattle.hem_text.specs.declared.text.Place.{Place}
+use Rattle.hem_text.specs.declared.text.TokenKind.{TokenKind}
+use Rattle.hem_text.specs.Tokens.{tokens_from, tokens_of, start_place, piece_of, advance}
+use Rattle.hem_text.specs.Spans.{StandFrom, StandInOrder}
 
 from_earlier : (k m : ℕ) (ts : List Token) → k ≤ m → StandFrom m ts → StandFrom k ts
 from_earlier k m [] le h = tt

@@ -4,9 +4,9 @@ use Rattle.std.proofs.Common.{⊎_elim}
 use Rattle.std.proofs.str.Laws.{order}
 use Rattle.std.proofs.lemmas.List.{take-take, take-append-drop, length-take, length-drop}
 use Rattle.std.specs.Prelude.{option_and_then, slice_get, is_some}
-use Rattle.hem_base.specs.declared.text.Cause.{Cause}
-use Rattle.hem_base.specs.declared.text.Cause.TheVariants.{TooMany, Repeated, Expected}
-use Rattle.hem_base.specs.Machine.{Grammar, Lexeme, State, Way, Rules, full, unlimited, repeating, goes, next, run, way_at, lost_cause, cause_of, state, Reads, IsFault}
+use Rattle.hem_text.specs.declared.text.Cause.{Cause}
+use Rattle.hem_text.specs.declared.text.Cause.TheVariants.{TooMany, Repeated, Expected}
+use Rattle.hem_text.specs.Grammars.{Grammar, Lexeme, State, Way, Rules, full, unlimited, repeating, goes, next, run, way_at, lost_cause, cause_of, state, Reads, IsFault}
 use Rattle.hem_text.specs.Refused.{local_cause, local_cause_at}
 
 -- what may come by all rules may come by fewer

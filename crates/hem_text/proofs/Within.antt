@@ -5,12 +5,13 @@ use Rattle.std.specs.Prelude.{All}
 use Rattle.std.specs.List.{prefix_len}
 use Rattle.std.proofs.lemmas.List.Sums.{prefix_len-le-length}
 use Rattle.std.proofs.lemmas.List.Elements.{All-cons, All-nil}
-use Rattle.hem_base.specs.declared.text.Token.{Token}
-use Rattle.hem_base.specs.declared.text.Place.{Place}
-use Rattle.hem_base.specs.declared.text.Piece.{Piece}
-use Rattle.hem_base.specs.declared.text.TokenKind.{TokenKind}
-use Rattle.hem_base.specs.Tokens.{tokens_from, tokens_of, start_place, piece_of, advance, is_space, begins_comment, is_not_line_feed, is_word_byte, is_pair, is_sign}
-use Rattle.hem_base.specs.Spans.{IsSpan}
+use Rattle.hem_text.specs.declared.text.Token.{Token}
+use Rattle.hem_text.specs.declared.text.Place.{Place}
+use Rattle.hem_text.specs.declared.text.Piece.{Piece}
+use Rattle.hem_text.specs.declared.text.TokenKind.{TokenKind}
+use Rattle.hem_text.specs.Tokens.{tokens_from, tokens_of, start_place, piece_of, advance, is_space, begins_comment, is_not_line_feed, is_pair, is_sign}
+use Rattle.hem_base.specs.Words.{is_word_byte}
+use Rattle.hem_text.specs.Spans.{IsSpan}
 
 by_if : (P : Piece → Type 0) (c : Bool) (x y : Piece) → (c ≡ true → P x) → (c ≡ false → P y) → P (cond c x y)
 by_if P true x y f g = f refl

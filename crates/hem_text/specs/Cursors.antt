@@ -1,8 +1,8 @@
 -- Where a reader begins.
 use Rattle.std.specs.Prelude.{◌≡◌, ℕ, ◌<◌, ◌≤◌, List, length, map, drop}
-use Rattle.hem_base.specs.declared.text.Token.{Token}
-use Rattle.hem_base.specs.Tokens.{tokens_of}
-use Rattle.hem_base.specs.Machine.{Lexeme, lexeme_of}
+use Rattle.hem_text.specs.declared.text.Token.{Token}
+use Rattle.hem_text.specs.Tokens.{tokens_of}
+use Rattle.hem_text.specs.Grammars.{Lexeme, lexeme_of}
 
 -- the tokens are those of the bytes, which are few enough to have places, and at is one of them or the end
 pub record IsCursor (bytes : List ℕ) (tokens : List Token) (at : ℕ) : Type 0 where

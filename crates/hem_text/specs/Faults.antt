@@ -1,10 +1,10 @@
 -- What a reader answers: the document that the tokens are, or their first fault.
 use Rattle.std.specs.Prelude.{◌≡◌, ℕ, ◌+◌, List, map, drop, Option, Some, None, slice_get}
-use Rattle.hem_base.specs.declared.text.Token.{Token}
-use Rattle.hem_base.specs.declared.text.Place.{Place}
-use Rattle.hem_base.specs.declared.text.Cause.{Cause}
-use Rattle.hem_base.specs.Tokens.{end_place}
-use Rattle.hem_base.specs.Machine.{Grammar, State, Lexeme, lexeme_of, Reads, IsFault}
+use Rattle.hem_text.specs.declared.text.Token.{Token}
+use Rattle.hem_text.specs.declared.text.Place.{Place}
+use Rattle.hem_text.specs.declared.text.Cause.{Cause}
+use Rattle.hem_text.specs.Tokens.{end_place}
+use Rattle.hem_text.specs.Grammars.{Grammar, State, Lexeme, lexeme_of, Reads, IsFault}
 use Rattle.hem_text.specs.declared.reader.TextError.{TextError}
 use Rattle.hem_text.specs.declared.machine.Refusal.{Refusal}
 use Rattle.hem_text.specs.declared.machine.Refusal.TheVariants as refusal

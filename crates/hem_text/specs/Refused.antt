@@ -1,8 +1,8 @@
 -- Why one token can't be read, from the state before it alone.
 use Rattle.std.specs.Prelude.{◌≡◌, Option, None, Some, if◌then◌else◌}
-use Rattle.hem_base.specs.declared.text.Cause.{Cause}
-use Rattle.hem_base.specs.declared.text.Cause.TheVariants.{TooMany, Repeated}
-use Rattle.hem_base.specs.Machine.{Grammar, State, Way, Lexeme, next, full, way_at, lost_cause}
+use Rattle.hem_text.specs.declared.text.Cause.{Cause}
+use Rattle.hem_text.specs.declared.text.Cause.TheVariants.{TooMany, Repeated}
+use Rattle.hem_text.specs.Grammars.{Grammar, State, Way, Lexeme, next, full, way_at, lost_cause}
 use Rattle.hem_text.specs.declared.machine.Refusal.{Refusal}
 use Rattle.hem_text.specs.declared.machine.Refusal.TheVariants.{Fault, OutOfMemory}
 

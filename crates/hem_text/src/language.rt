@@ -1,9 +1,10 @@
 //! What a reader asks of a grammar.
 
 ghost use Rattle.std.specs.Prelude.{◌≡◌, OnOk, IsTrue};
-ghost use Rattle.hem_base.specs.Machine.{Grammar, lexeme};
+ghost use Rattle.hem_text.specs.Grammars.{Grammar, lexeme};
 
-use hem_base::{OutOfMemory, Place, Stands, Symbol, TokenKind};
+use crate::{Place, Stands, Symbol, TokenKind};
+use hem_base::OutOfMemory;
 
 /// A grammar, at what has been read so far of a document.
 pub trait Language {

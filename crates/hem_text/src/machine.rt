@@ -3,13 +3,14 @@
 ghost use Rattle.std.specs.Prelude.{◌≡◌, ◌<◌, ◌≤◌, length, drop, find, Some, OnOk, IfErr, IfSome, IsTrue};
 ghost use Rattle.std.specs.List.{list_any, list_all};
 ghost use Rattle.std.specs.Option.{option_map};
-ghost use Rattle.hem_base.specs.Machine.{Grammar, lexeme, state, heads, can_pass, comes_again, way_into, way_at, full, next, standing, is_used, is_plain, lost_cause};
+ghost use Rattle.hem_text.specs.Grammars.{Grammar, lexeme, state, heads, can_pass, comes_again, way_into, way_at, full, next, standing, is_used, is_plain, lost_cause};
 ghost use Rattle.hem_text.specs.Refused.{IsRefused};
 ghost use Rattle.hem_text.specs.declared.machine.Refusal.TheVariants.{OutOfMemory as Memory};
 
 use crate::language::Language;
 use crate::stack::Stack;
-use hem_base::{Cause, OutOfMemory, Place, Stands, Symbol, TokenKind};
+use crate::{Cause, Place, Stands, Symbol, TokenKind};
+use hem_base::OutOfMemory;
 
 /// Why a token wasn't read.
 #[derive(Clone, Copy, Debug, PartialEq, Eq)]

@@ -3,9 +3,10 @@
 ghost use Rattle.std.specs.Prelude.{◌≡◌, ◌+◌, ◌^◌, ◌<◌, ◌≤◌, length, fold, take};
 ghost use Rattle.std.specs.List.{prefix_len, list_all};
 ghost use Rattle.std.specs.Char.{is_ascii_digit};
-ghost use Rattle.hem_base.specs.Tokens.{is_space, is_word_byte, is_sign, is_not_line_feed, is_pair, kind_of_run, piece_of, advance};
+ghost use Rattle.hem_text.specs.Tokens.{is_space, is_sign, is_not_line_feed, is_pair, kind_of_run, piece_of, advance};
+ghost use Rattle.hem_base.specs.Words.{is_word_byte};
 
-use hem_base::{Piece, Place, TokenKind};
+use crate::{Piece, Place, TokenKind};
 
 fn is_space(b: u8) -> bool
     ensures { result ≡ is_space b }

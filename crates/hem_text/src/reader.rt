@@ -1,16 +1,17 @@
 //! Reads a document, or finds its first fault.
 
 ghost use Rattle.std.specs.Prelude.{◌≡◌, ◌+◌, ◌-◌, ◌<◌, ◌≤◌, length, map, drop, All, IfOk, IfErr};
-ghost use Rattle.hem_base.specs.Machine.{state, lexeme_of, Reads};
+ghost use Rattle.hem_text.specs.Grammars.{state, lexeme_of, Reads};
 ghost use Rattle.hem_text.specs.Faults.{IsFirstFault, ReadsOnly, refused_at};
-ghost use Rattle.hem_base.specs.Spans.{IsSpan};
+ghost use Rattle.hem_text.specs.Spans.{IsSpan};
 ghost use Rattle.hem_text.specs.declared.reader.TextError.TheVariants.{OutOfMemory as Memory};
 
 use crate::language::Language;
 use crate::machine::{Refusal, step};
 use crate::piece::place_after;
 use crate::stack::Stack;
-use hem_base::{Cause, OutOfMemory, Place, Token};
+use crate::{Cause, Place, Token};
+use hem_base::OutOfMemory;
 
 /// The first fault of a text.
 #[derive(Clone, Copy, Debug, PartialEq, Eq)]

@@ -2,7 +2,8 @@
 
 ghost use Rattle.std.specs.Prelude.{◌≡◌, ◌<◌, ◌≤◌, [], ◌∷◌, ◌++◌, length, drop, slice_get, OnOk, Some, IsTrue, ◌↔◌};
 
-use hem_base::{OutOfMemory, Symbol};
+use crate::Symbol;
+use hem_base::OutOfMemory;
 use std::alloc::Global;
 use std::marker::Model;
 
@@ -14,7 +15,7 @@ pub struct Stack<T, I> {
 
 impl<T, I> Model for Stack<T, I> {
     ghost use Rattle.std.specs.Prelude.{List as Sequence, reverse};
-    ghost use Rattle.hem_base.specs.declared.grammar.Symbol.{Symbol};
+    ghost use Rattle.hem_text.specs.declared.symbol.Symbol.{Symbol};
 
     ghost Value = { Sequence (Symbol T I) };
 

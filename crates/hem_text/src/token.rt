@@ -1,11 +1,12 @@
 //! The tokens of a text.
 
 ghost use Rattle.std.specs.Prelude.{◌≡◌, ◌<◌, length, All, IfOk};
-ghost use Rattle.hem_base.specs.Spans.{IsSpan, StandInOrder};
-ghost use Rattle.hem_base.specs.Tokens.{tokens_of};
+ghost use Rattle.hem_text.specs.Spans.{IsSpan, StandInOrder};
+ghost use Rattle.hem_text.specs.Tokens.{tokens_of};
 
 use crate::piece::{piece_at, place_after};
-use hem_base::{OutOfMemory, Place, Token};
+use crate::{Place, Token};
+use hem_base::OutOfMemory;
 use std::alloc::Global;
 
 /// A place in a text from which readers go on: the token `at`, or the end. A reader moves it past what it has read, and

@@ -1,3 +1,2 @@
-mod Answered
 pub mod OneStepEvents
 pub mod OneStepOrder

@@ -12,13 +12,13 @@ use Rattle.hem_syntax.specs.declared.rule.Rule.{Rule}
 use Rattle.hem_syntax.specs.declared.rule.Take.{Take}
 use Rattle.hem_syntax.specs.declared.rule.Take.TheVariants as take
 use Rattle.std.specs.List.{list_all}
-use Rattle.hem_syntax.specs.declared.rule.TemplateName.{TemplateName}
-use Rattle.hem_syntax.specs.declared.rule.TemplateName.TheVariants.{ImmDown}
-use Rattle.hem_syntax.specs.declared.rule.Clause.{Clause}
-use Rattle.hem_syntax.specs.declared.rule.Clause.TheVariants as clause
+use Rattle.hem_template.specs.declared.template_name.TemplateName.{TemplateName}
+use Rattle.hem_template.specs.declared.template_name.TemplateName.TheVariants.{ImmDown}
+use Rattle.hem_template.specs.declared.clause.Clause.{Clause}
+use Rattle.hem_template.specs.declared.clause.Clause.TheVariants as clause
 use Rattle.hem_syntax.specs.Protocol.{Protocol, rule_named}
-use Rattle.hem_syntax.specs.Local.{Local, nobody}
-use Rattle.hem_syntax.specs.Template.{from_me, is_taking, row_of, templates, has_shape, shape_of, level_fits, class_fits, locks_fit, silent_fits, scope_fits, names_fit, fitted, template_of}
+use Rattle.hem_object.specs.Local.{Local, nobody}
+use Rattle.hem_template.specs.Template.{from_me, is_taking, row_of, templates, has_shape, shape_of, level_fits, class_fits, locks_fit, silent_fits, scope_fits, names_fit, fitted, template_of}
 use Rattle.hem_fire.specs.OneFire.{Heads, can_fire, outs_of}
 use Rattle.hem_tree.specs.Tree.{Tree, kind_of, children_of, place_among}
 use Rattle.hem_system.specs.State.{State, Effect, Step, LineStep, heads_of, is_own_child, place_of_me, rule_effect, own_effect, local_at, effect_of, line_after, line_step_of, step_of, fire, run}

@@ -1,5 +1,3 @@
-pub mod Grammar
-pub mod Reading
 pub mod History
 pub mod Tags
 pub mod Blocks

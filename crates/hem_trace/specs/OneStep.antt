@@ -3,11 +3,11 @@ use Rattle.std.specs.Prelude.{◌==◌, Bool, true, false, ◌&&◌, length, Res
 use Rattle.std.specs.List.{list_all}
 use Rattle.hem_base.specs.declared.ids.Kind.TheVariants.{Leaf}
 use Rattle.hem_syntax.specs.declared.rule.Rule.{Rule}
-use Rattle.hem_syntax.specs.declared.rule.TemplateName.{TemplateName}
-use Rattle.hem_syntax.specs.declared.rule.TemplateName.TheVariants.{ImmDown}
-use Rattle.hem_syntax.specs.declared.rule.Clause.{Clause}
+use Rattle.hem_template.specs.declared.template_name.TemplateName.{TemplateName}
+use Rattle.hem_template.specs.declared.template_name.TemplateName.TheVariants.{ImmDown}
+use Rattle.hem_template.specs.declared.clause.Clause.{Clause}
 use Rattle.hem_syntax.specs.Protocol.{Protocol}
-use Rattle.hem_syntax.specs.Template.{template_of}
+use Rattle.hem_template.specs.Template.{template_of}
 
 -- whether a template is the one whose rules answer at once
 abbrev pub is_answer_template : Result TemplateName Clause → Bool

@@ -3,13 +3,13 @@ use Rattle.std.specs.Prelude.{ℕ, ◌==◌, ◌+◌, nat_lt, Bool, true, false,
 use Rattle.std.specs.List.{list_any}
 use Rattle.std.specs.Option.{option_map_or}
 use Rattle.hem_base.specs.declared.ids.Firing.{Firing}
-use Rattle.hem_syntax.specs.declared.rule.TemplateName.{TemplateName}
-use Rattle.hem_syntax.specs.declared.rule.TemplateName.TheVariants.{RqUp, RqUpSelf}
-use Rattle.hem_syntax.specs.declared.rule.Clause.{Clause}
+use Rattle.hem_template.specs.declared.template_name.TemplateName.{TemplateName}
+use Rattle.hem_template.specs.declared.template_name.TemplateName.TheVariants.{RqUp, RqUpSelf}
+use Rattle.hem_template.specs.declared.clause.Clause.{Clause}
 use Rattle.hem_syntax.specs.Protocol.{Protocol, rule_named}
 use Rattle.hem_tree.specs.Tree.{Tree, kind_of, level_of}
 use Rattle.hem_system.specs.State.{State}
-use Rattle.hem_syntax.specs.Template.{template_of}
+use Rattle.hem_template.specs.Template.{template_of}
 use Rattle.hem_trace.specs.History.{Event, events}
 use Rattle.hem_trace.specs.Tags.{numbers_of}
 use Rattle.hem_trace.specs.Blocks.{Block}

@@ -6,7 +6,7 @@ use Rattle.std.proofs.lemmas.List.{map-append, length_push}
 use Rattle.std.proofs.lemmas.List.Elements.{filter-append, filter_agree}
 use Rattle.std.proofs.lemmas.Option.{slice_get-get_or, slice_get_past, slice_get_within, slice_get-map}
 use Rattle.hem_base.specs.declared.ids.ObjectId.{ObjectId}
-use Rattle.hem_base.specs.declared.setup.SetupCause.{SetupCause}
+use Rattle.hem_tree.specs.declared.setup.SetupCause.{SetupCause}
 use Rattle.hem_tree.specs.declared.raw.RawNode.{RawNode}
 use Rattle.hem_tree.specs.declared.objects.Object.{Object}
 use Rattle.hem_tree.specs.Tree.{Tree, Node, IsLawful, below, is_number, is_child, parent_of, level_of, most_objects}

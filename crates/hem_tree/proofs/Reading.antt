@@ -4,10 +4,10 @@ use Rattle.std.specs.Prelude.{map, slice_get}
 use Rattle.std.proofs.lemmas.List.{length_push, length-map, length-drop}
 use Rattle.hem_base.specs.declared.ids.Kind.{Kind}
 use Rattle.hem_base.specs.declared.ids.Kind.TheVariants.{Root, Mid, Leaf}
-use Rattle.hem_base.specs.declared.text.Token.{Token}
-use Rattle.hem_base.specs.declared.grammar.Symbol.{Symbol}
-use Rattle.hem_base.specs.declared.grammar.Symbol.TheVariants.{One, Item as One_of, Many}
-use Rattle.hem_base.specs.Machine.{Lexeme, State, Way, full, ways, state, Reads, lexeme_of}
+use Rattle.hem_text.specs.declared.text.Token.{Token}
+use Rattle.hem_text.specs.declared.symbol.Symbol.{Symbol}
+use Rattle.hem_text.specs.declared.symbol.Symbol.TheVariants.{One, Item as One_of, Many}
+use Rattle.hem_text.specs.Grammars.{Lexeme, State, Way, full, ways, state, Reads, lexeme_of}
 use Rattle.hem_text.specs.Faults.{ReadsOnly}
 use Rattle.hem_tree.specs.declared.raw.RawNode.{RawNode}
 use Rattle.hem_tree.specs.declared.draft.Terminal.{Terminal}

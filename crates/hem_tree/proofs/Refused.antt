@@ -7,8 +7,8 @@ use Rattle.std.proofs.lemmas.Option.{slice_get_within}
 use Rattle.std.proofs.lemmas.List.Sums.{length-filter}
 use Rattle.hem_base.specs.declared.ids.Kind.{Kind}
 use Rattle.hem_base.specs.declared.ids.Kind.TheVariants.{Root, Mid, Leaf}
-use Rattle.hem_base.specs.declared.setup.SetupCause.{SetupCause}
-use Rattle.hem_base.specs.declared.setup.SetupCause.TheVariants as cause
+use Rattle.hem_tree.specs.declared.setup.SetupCause.{SetupCause}
+use Rattle.hem_tree.specs.declared.setup.SetupCause.TheVariants as cause
 use Rattle.hem_tree.specs.declared.raw.RawNode.{RawNode}
 use Rattle.hem_tree.specs.Tree.{Tree, below, kind_of, parent_of, is_child, children_of, place_among, path_up, path_of, level_of, most_objects, most_children, most_levels, IsLawful}
 use Rattle.hem_tree.specs.Raw.{IsRawTree, IsLevelAfter, level_at, tree_of}

@@ -3,13 +3,13 @@ use Rattle.std.specs.Prelude.{ℕ, ◌+◌, ◌-◌, ◌&&◌, Bool, true, false
 use Rattle.std.specs.Str.{bytes_eq}
 use Rattle.hem_base.specs.declared.ids.Kind.{Kind}
 use Rattle.hem_base.specs.declared.ids.Kind.TheVariants as kind
-use Rattle.hem_base.specs.declared.text.TokenKind.{TokenKind}
-use Rattle.hem_base.specs.declared.text.TokenKind.TheVariants as token
-use Rattle.hem_base.specs.declared.grammar.Symbol.{Symbol}
-use Rattle.hem_base.specs.declared.grammar.Symbol.TheVariants.{One, Item as One_of, Many}
-use Rattle.hem_base.specs.declared.grammar.Stands.{Stands}
-use Rattle.hem_base.specs.declared.grammar.Stands.TheVariants as stand
-use Rattle.hem_base.specs.Machine.{Grammar, Lexeme}
+use Rattle.hem_text.specs.declared.text.TokenKind.{TokenKind}
+use Rattle.hem_text.specs.declared.text.TokenKind.TheVariants as token
+use Rattle.hem_text.specs.declared.symbol.Symbol.{Symbol}
+use Rattle.hem_text.specs.declared.symbol.Symbol.TheVariants.{One, Item as One_of, Many}
+use Rattle.hem_text.specs.declared.symbol.Stands.{Stands}
+use Rattle.hem_text.specs.declared.symbol.Stands.TheVariants as stand
+use Rattle.hem_text.specs.Grammars.{Grammar, Lexeme}
 use Rattle.hem_tree.specs.declared.draft.Terminal.{Terminal}
 use Rattle.hem_tree.specs.declared.draft.Terminal.TheVariants as the
 use Rattle.hem_tree.specs.declared.draft.Item.{Item}

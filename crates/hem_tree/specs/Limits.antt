@@ -1,9 +1,9 @@
 -- The limits on a tree, object by object.
 use Rattle.std.specs.Prelude.{ℕ, ◌<◌, ◌≡◌, nat_le, nat_lt, List, length, Option, None, Some, slice_get, if◌then◌else◌}
 use Rattle.std.specs.Option.{option_map_or}
-use Rattle.hem_base.specs.declared.setup.Setup.{Setup as Fault}
-use Rattle.hem_base.specs.declared.setup.SetupCause.{SetupCause}
-use Rattle.hem_base.specs.declared.setup.SetupCause.TheVariants.{Objects, Children, Levels}
+use Rattle.hem_tree.specs.declared.setup.SetupFault.{SetupFault as Fault}
+use Rattle.hem_tree.specs.declared.setup.SetupCause.{SetupCause}
+use Rattle.hem_tree.specs.declared.setup.SetupCause.TheVariants.{Objects, Children, Levels}
 use Rattle.hem_tree.specs.declared.raw.RawNode.{RawNode}
 use Rattle.hem_tree.specs.declared.setup.SetupError.{SetupError}
 use Rattle.hem_tree.specs.declared.setup.SetupError.TheVariants.{Setup, OutOfMemory}

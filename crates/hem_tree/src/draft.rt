@@ -4,7 +4,8 @@ ghost use Rattle.std.specs.Prelude.{◌≡◌};
 ghost use Rattle.hem_tree.specs.Grammar.{start, is_word, is_sign, word_of, grammar, nothing};
 
 use crate::raw::RawNode;
-use hem_base::{Kind, List, OutOfMemory, Place, Stands, Symbol, TokenKind};
+use hem_base::{Kind, List, OutOfMemory};
+use hem_text::{Place, Stands, Symbol, TokenKind};
 use hem_text::Language;
 use std::alloc::Global;
 

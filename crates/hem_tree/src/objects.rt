@@ -9,7 +9,8 @@ ghost use Rattle.hem_tree.specs.Objects.{number_of, number_at, elders_in, ArePar
 use crate::limits::{MOST_CHILDREN, MOST_LEVELS, MOST_OBJECTS};
 use crate::raw::RawNode;
 use crate::setup::SetupError;
-use hem_base::{Kind, List, ObjectId, OutOfMemory, Setup, SetupCause};
+use hem_base::{Kind, List, ObjectId, OutOfMemory};
+use crate::{SetupFault, SetupCause};
 use std::alloc::Global;
 
 /// An object of a tree, with what the queries answer.
@@ -97,7 +98,7 @@ fn parents_of(alloc: Global, nodes: &[RawNode]) -> Result<List<Option<ObjectId>>
     for (k, node) in nodes.iter().enumerate() {
         let parent = nearest_above(nodes, k, node.level);
         if let Some(cause) = limit_passed(parents.as_slice(), parent, node.level) {
-            return Err(SetupError::Setup(Setup {
+            return Err(SetupError::Setup(SetupFault {
                 place: node.place,
                 cause,
             }));

@@ -1,7 +1,7 @@
 //! Trees as their text gives them.
 
 ghost use Rattle.std.specs.Prelude.{◌≡◌, IfOk, IfErr, OnErr};
-ghost use Rattle.hem_base.specs.Machine.{state};
+ghost use Rattle.hem_text.specs.Grammars.{state};
 ghost use Rattle.hem_text.specs.Cursors.{IsCursor};
 ghost use Rattle.hem_text.specs.Faults.{IsFirstFault};
 ghost use Rattle.hem_tree.specs.Grammar.{start, grammar, nothing};
@@ -9,7 +9,8 @@ ghost use Rattle.hem_tree.specs.Raw.{IsRawTree};
 ghost use Rattle.hem_tree.specs.Reading.{ReadsTree};
 
 use crate::draft::{nothing, start};
-use hem_base::{Kind, List, Place};
+use hem_base::{Kind, List};
+use hem_text::Place;
 use hem_text::{Cursor, Stack, TextError, read};
 use std::alloc::Global;
 use std::marker::Model;

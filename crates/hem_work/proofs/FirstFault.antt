@@ -8,10 +8,10 @@ use Rattle.std.proofs.lemmas.List.Elements.{All-nil, All-cons}
 use Rattle.std.proofs.lemmas.List.Sums.{sum_by_more}
 use Rattle.std.proofs.lemmas.Option.{slice_get_within}
 use Rattle.hem_base.specs.declared.ids.Message.{Message}
-use Rattle.hem_base.specs.declared.text.Place.{Place}
-use Rattle.hem_base.specs.declared.setup.Setup.{Setup as Fault}
-use Rattle.hem_base.specs.declared.setup.SetupCause.{SetupCause}
-use Rattle.hem_base.specs.declared.setup.SetupCause.TheVariants.{Object, Line}
+use Rattle.hem_text.specs.declared.text.Place.{Place}
+use Rattle.hem_tree.specs.declared.setup.SetupFault.{SetupFault as Fault}
+use Rattle.hem_tree.specs.declared.setup.SetupCause.{SetupCause}
+use Rattle.hem_tree.specs.declared.setup.SetupCause.TheVariants.{Object, Line}
 use Rattle.hem_syntax.specs.Protocol.{Protocol}
 use Rattle.hem_tree.specs.Tree.{Tree, Node}
 use Rattle.hem_work.specs.declared.raw.RawEntry.{RawEntry}

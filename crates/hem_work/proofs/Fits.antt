@@ -10,10 +10,10 @@ use Rattle.hem_base.specs.declared.ids.Kind.{Kind}
 use Rattle.hem_base.specs.declared.ids.Kind.TheVariants.{Root, Mid, Leaf}
 use Rattle.hem_base.specs.declared.ids.Message.{Message}
 use Rattle.hem_base.specs.declared.ids.MsgId.{MsgId}
-use Rattle.hem_base.specs.declared.text.Place.{Place}
-use Rattle.hem_base.specs.declared.setup.SetupCause.TheVariants.{Lines, SelfCount, Object, Line, Request, Requests}
+use Rattle.hem_text.specs.declared.text.Place.{Place}
+use Rattle.hem_tree.specs.declared.setup.SetupCause.TheVariants.{Lines, SelfCount, Object, Line, Request, Requests}
 use Rattle.hem_syntax.specs.Protocol.{Protocol, class_of}
-use Rattle.hem_syntax.specs.Template.{has_class, is_ext_req}
+use Rattle.hem_syntax.specs.Protocol.{has_class, is_ext_req}
 use Rattle.hem_syntax.specs.declared.rule.Class.{Class}
 use Rattle.hem_syntax.specs.declared.rule.Class.TheVariants.{ExtReq, ExtRsp, UpReq, UpRsp, DownReq, DownRsp}
 use Rattle.hem_tree.specs.Tree.{Tree, kind_of}

@@ -1,9 +1,9 @@
 -- What the reader of works answers.
 use Rattle.std.proofs.Common.{◌≡◌, ℕ, ◌-◌, ◌≤◌, List, length, drop, subst, arith}
 use Rattle.std.proofs.lemmas.List.{length-map, length-drop}
-use Rattle.hem_base.specs.declared.text.Token.{Token}
-use Rattle.hem_base.specs.declared.grammar.Symbol.{Symbol}
-use Rattle.hem_base.specs.Machine.{state, Reads, lexeme_of}
+use Rattle.hem_text.specs.declared.text.Token.{Token}
+use Rattle.hem_text.specs.declared.symbol.Symbol.{Symbol}
+use Rattle.hem_text.specs.Grammars.{state, Reads, lexeme_of}
 use Rattle.hem_text.specs.Cursors.{lexemes_from}
 use Rattle.hem_text.specs.Faults.{ReadsOnly}
 use Rattle.hem_syntax.specs.Protocol.{Protocol}

@@ -2,16 +2,17 @@
 use Rattle.std.specs.Prelude.{ℕ, ◌-◌, ◌&&◌, Bool, true, List, [], ◌∷◌, ◌++◌, length, Option, Some, None, unwrap_or, nat_le, slice_get, slice_set}
 use Rattle.hem_base.specs.declared.ids.MsgId.{MsgId}
 use Rattle.hem_base.specs.declared.ids.Message.{Message}
-use Rattle.hem_base.specs.declared.text.Place.{Place}
-use Rattle.hem_base.specs.declared.grammar.Symbol.{Symbol}
-use Rattle.hem_base.specs.declared.grammar.Symbol.TheVariants.{One, Many}
-use Rattle.hem_base.specs.declared.grammar.Stands.{Stands}
-use Rattle.hem_base.specs.declared.grammar.Stands.TheVariants as stand
+use Rattle.hem_text.specs.declared.text.Place.{Place}
+use Rattle.hem_text.specs.declared.symbol.Symbol.{Symbol}
+use Rattle.hem_text.specs.declared.symbol.Symbol.TheVariants.{One, Many}
+use Rattle.hem_text.specs.declared.symbol.Stands.{Stands}
+use Rattle.hem_text.specs.declared.symbol.Stands.TheVariants as stand
 use Rattle.hem_base.specs.declared.words.Reserved.TheVariants as word
-use Rattle.hem_base.specs.Words.{is_name}
-use Rattle.hem_base.specs.Machine.{Grammar, Lexeme}
+use Rattle.hem_text.specs.Spelling.{is_name}
+use Rattle.hem_text.specs.Grammars.{Grammar, Lexeme}
 use Rattle.hem_syntax.specs.Protocol.{Text, Protocol}
-use Rattle.hem_syntax.specs.Reading.{is_word, is_number, is_the_word, place_among, is_among}
+use Rattle.hem_grammar.specs.Draft.{place_among, is_among}
+use Rattle.hem_text.specs.Spelling.{is_word, is_number, is_the_word}
 use Rattle.hem_syntax.specs.declared.rule.Class.{Class}
 use Rattle.hem_work.specs.declared.draft.Terminal.{Terminal}
 use Rattle.hem_work.specs.declared.draft.Terminal.TheVariants as the

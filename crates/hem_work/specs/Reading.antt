@@ -1,7 +1,7 @@
 -- What the reader of works answers.
 use Rattle.std.specs.Prelude.{ℕ, ◌≡◌, ◌-◌, ◌≤◌, List, length}
-use Rattle.hem_base.specs.declared.text.Token.{Token}
-use Rattle.hem_base.specs.Machine.{state, Reads}
+use Rattle.hem_text.specs.declared.text.Token.{Token}
+use Rattle.hem_text.specs.Grammars.{state, Reads}
 use Rattle.hem_text.specs.Cursors.{lexemes_from}
 use Rattle.hem_text.specs.Faults.{ReadsOnly}
 use Rattle.hem_syntax.specs.Protocol.{Protocol}

@@ -5,12 +5,12 @@ use Rattle.std.specs.Option.{option_or, option_map_or}
 use Rattle.hem_base.specs.declared.ids.Kind.{Kind}
 use Rattle.hem_base.specs.declared.ids.Kind.TheVariants.{Leaf}
 use Rattle.hem_base.specs.declared.ids.Message.{Message}
-use Rattle.hem_base.specs.declared.text.Place.{Place}
-use Rattle.hem_base.specs.declared.setup.Setup.{Setup as Fault}
-use Rattle.hem_base.specs.declared.setup.SetupCause.{SetupCause}
-use Rattle.hem_base.specs.declared.setup.SetupCause.TheVariants.{Lines, SelfCount, Object, Line, Request, Requests, Starts}
+use Rattle.hem_text.specs.declared.text.Place.{Place}
+use Rattle.hem_tree.specs.declared.setup.SetupFault.{SetupFault as Fault}
+use Rattle.hem_tree.specs.declared.setup.SetupCause.{SetupCause}
+use Rattle.hem_tree.specs.declared.setup.SetupCause.TheVariants.{Lines, SelfCount, Object, Line, Request, Requests, Starts}
 use Rattle.hem_syntax.specs.Protocol.{Protocol}
-use Rattle.hem_syntax.specs.Template.{has_class, is_ext_req}
+use Rattle.hem_syntax.specs.Protocol.{has_class, is_ext_req}
 use Rattle.hem_tree.specs.Tree.{Tree, below, kind_of}
 use Rattle.hem_tree.specs.declared.setup.SetupError.{SetupError}
 use Rattle.hem_tree.specs.declared.setup.SetupError.TheVariants.{Setup, OutOfMemory}

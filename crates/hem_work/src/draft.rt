@@ -1,16 +1,14 @@
 //! The grammar of works.
 
 ghost use Rattle.std.specs.Prelude.{◌≡◌, IfOk};
-ghost use Rattle.hem_base.specs.Machine.{lexeme};
-ghost use Rattle.hem_base.specs.Words.{is_name};
-ghost use Rattle.hem_syntax.specs.Reading.{is_word, is_number, is_the_word};
+ghost use Rattle.hem_text.specs.Grammars.{lexeme};
+ghost use Rattle.hem_text.specs.Spelling.{is_name};
+ghost use Rattle.hem_text.specs.Spelling.{is_word, is_number, is_the_word};
 ghost use Rattle.hem_work.specs.Grammar.{start, firsts, follows, stands, id_of, grammar, nothing};
 
 use crate::raw::RawEntry;
-use hem_base::{
-    List, Message, MsgId, OutOfMemory, Place, Reserved, Stands, Symbol, TokenKind, is_name,
-    word_bytes,
-};
+use hem_base::{List, Message, MsgId, OutOfMemory, Reserved, word_bytes};
+use hem_text::{Place, Stands, Symbol, TokenKind, is_name};
 use hem_syntax::{Class, Named, Protocol};
 use hem_text::{Language, is_at_most, value_of};
 use std::alloc::Global;

@@ -1,21 +1,23 @@
 //! The first rule that a work breaks.
 
 ghost use Rattle.std.specs.Prelude.{◌≡◌, ◌+◌, ◌<◌, ◌≤◌, length, IfOk, IfNone};
-ghost use Rattle.hem_syntax.specs.Template.{has_class, is_ext_req};
+ghost use Rattle.hem_syntax.specs.Protocol.{has_class, is_ext_req};
 ghost use Rattle.hem_work.specs.Setup.{fault_if, fault_in, is_leaf, is_leaf_kind, request_count, starts_of, request_fault, requests_fault, heading_fault, entry_fault, entries_fault, counts_fault, starts_fault, first_fault};
 
 use crate::limits::{MOST_LINES, MOST_REQUESTS, MOST_SELF, MOST_STARTS};
 use crate::raw::{RawEntry, RawWork};
-use hem_base::{Kind, Message, MsgId, ObjectId, Place, Setup, SetupCause};
+use hem_base::{Kind, Message, MsgId, ObjectId};
+use hem_text::Place;
+use hem_tree::{SetupFault, SetupCause};
 use hem_syntax::{Class, Protocol};
 use hem_tree::Tree;
 
 /// A fault, where its rule is broken.
-fn fault_if(broken: bool, cause: SetupCause, place: Place) -> Option<Setup>
+fn fault_if(broken: bool, cause: SetupCause, place: Place) -> Option<SetupFault>
     ensures { result ≡ fault_if broken cause place }
 {
     if broken {
-        Some(Setup { place, cause })
+        Some(SetupFault { place, cause })
     } else {
         None
     }
@@ -61,13 +63,13 @@ fn is_leaf(tree: &Tree, object: u32) -> bool
 }
 
 /// The rule that a request breaks, before which `before` requests stand in the text.
-fn request_fault(p: &Protocol, request: (Message, Place), before: usize) -> Option<Setup>
+fn request_fault(p: &Protocol, request: (Message, Place), before: usize) -> Option<SetupFault>
     ensures first { result ≡ request_fault p.now before request }
     ensures few { IfNone result (before < MOST_REQUESTS) }
 {
     let (message, place) = request;
     if !is_external(p, message.id) {
-        return Some(Setup {
+        return Some(SetupFault {
             place,
             cause: SetupCause::Request,
         });
@@ -76,7 +78,7 @@ fn request_fault(p: &Protocol, request: (Message, Place), before: usize) -> Opti
 }
 
 /// The first rule that requests break, before which `before` requests stand in the text.
-fn requests_fault(p: &Protocol, requests: &[(Message, Place)], before: usize) -> Option<Setup>
+fn requests_fault(p: &Protocol, requests: &[(Message, Place)], before: usize) -> Option<SetupFault>
     requires { before ≤ MOST_REQUESTS }
     ensures first { result ≡ requests_fault p.now before requests.now }
     ensures few { IfNone result (before + length requests.now ≤ MOST_REQUESTS) }
@@ -90,11 +92,11 @@ fn requests_fault(p: &Protocol, requests: &[(Message, Place)], before: usize) ->
 }
 
 /// The first rule that the object and the line of an entry break.
-fn heading_fault(tree: &Tree, lines: u32, entry: &RawEntry) -> Option<Setup>
+fn heading_fault(tree: &Tree, lines: u32, entry: &RawEntry) -> Option<SetupFault>
     ensures { result ≡ heading_fault tree.now lines entry.now }
 {
     if !is_leaf(tree, entry.object.0) {
-        return Some(Setup {
+        return Some(SetupFault {
             place: entry.object.1,
             cause: SetupCause::Object,
         });
@@ -109,7 +111,7 @@ fn entry_fault(
     lines: u32,
     entry: &RawEntry,
     before: usize,
-) -> Option<Setup>
+) -> Option<SetupFault>
     requires { before ≤ MOST_REQUESTS }
     ensures first { result ≡ entry_fault p.now tree.now lines before entry.now }
     ensures few { IfNone result (before + length entry.now.requests ≤ MOST_REQUESTS) }
@@ -126,7 +128,7 @@ fn count_requests(
     tree: &Tree,
     lines: u32,
     entries: &[RawEntry],
-) -> Result<usize, Setup>
+) -> Result<usize, SetupFault>
     ensures fault { fault_in result ≡ entries_fault p.now tree.now lines 0 entries.now }
     ensures count { IfOk result (λ n. n ≡ request_count entries.now) }
     ensures few { IfOk result (λ n. n ≤ MOST_REQUESTS) }
@@ -142,14 +144,14 @@ fn count_requests(
 }
 
 /// The first of the number of lines and that of self firings that is out of its bounds.
-fn counts_fault(raw: &RawWork) -> Option<Setup>
+fn counts_fault(raw: &RawWork) -> Option<SetupFault>
     ensures first { result ≡ counts_fault raw.now }
     ensures lines { IfNone result (raw.now.lines.0 ≤ MOST_LINES) }
     ensures self_count { IfNone result (raw.now.self_count.0 ≤ MOST_SELF) }
 {
     let (lines, place) = raw.lines;
     if lines < 1 || lines > MOST_LINES {
-        return Some(Setup {
+        return Some(SetupFault {
             place,
             cause: SetupCause::Lines,
         });
@@ -159,7 +161,7 @@ fn counts_fault(raw: &RawWork) -> Option<Setup>
 }
 
 /// The fault of a work of so many requests, over a tree of so many objects, that may start too much.
-fn starts_fault(raw: &RawWork, objects: u32, count: usize) -> Option<Setup>
+fn starts_fault(raw: &RawWork, objects: u32, count: usize) -> Option<SetupFault>
     requires lines { raw.now.lines.0 ≤ MOST_LINES }
     requires self_count { raw.now.self_count.0 ≤ MOST_SELF }
     requires objects { objects ≤ 64 }
@@ -173,7 +175,7 @@ fn starts_fault(raw: &RawWork, objects: u32, count: usize) -> Option<Setup>
 }
 
 /// The first rule that a work breaks: its counts, then entry by entry, then what it may start. It takes no memory.
-pub fn first_fault(raw: &RawWork, p: &Protocol, tree: &Tree) -> Option<Setup>
+pub fn first_fault(raw: &RawWork, p: &Protocol, tree: &Tree) -> Option<SetupFault>
     ensures { result ≡ first_fault raw.now p.now tree.now }
 {
     if let Some(fault) = counts_fault(raw) {

@@ -1,14 +1,15 @@
 //! Works as their text gives them.
 
 ghost use Rattle.std.specs.Prelude.{◌≡◌, IfOk, IfErr, OnErr};
-ghost use Rattle.hem_base.specs.Machine.{state};
+ghost use Rattle.hem_text.specs.Grammars.{state};
 ghost use Rattle.hem_text.specs.Cursors.{IsCursor};
 ghost use Rattle.hem_text.specs.Faults.{IsFirstFault};
 ghost use Rattle.hem_work.specs.Grammar.{start, grammar, nothing};
 ghost use Rattle.hem_work.specs.Reading.{ReadsWork, raw_of};
 
 use crate::draft::{WorkDraft, nothing, start};
-use hem_base::{List, Message, Place};
+use hem_base::{List, Message};
+use hem_text::Place;
 use hem_syntax::Protocol;
 use hem_text::{Cursor, Stack, TextError, read};
 use std::alloc::Global;

@@ -6,7 +6,8 @@ ghost use Rattle.hem_work.specs.Setup.{table_of};
 ghost use Rattle.hem_work.specs.Entries.{with_entry, IsPlaced};
 
 use crate::raw::RawEntry;
-use hem_base::{List, Message, OutOfMemory, Place};
+use hem_base::{List, Message, OutOfMemory};
+use hem_text::Place;
 use std::alloc::Global;
 
 /// Puts the messages of requests at the end of a list. After an error some of them may be there.

@@ -1,5 +1,5 @@
 use Rattle.std.proofs.Common.{rules}
-use Rattle.hem_base.specs.Machine.{lexeme}
+use Rattle.hem_text.specs.Grammars.{lexeme}
 use Rattle.hem_parser.specs.Reading.{IsShippedAs, IsUsedAs}
 use Rattle.hem_parser.proofs.Using.{if_ok, used_as}
 use Rattle.hem_parser.proofs.reading.named.Goals as goal

@@ -1,5 +1,5 @@
 use Rattle.std.proofs.Common.{rules}
-use Rattle.hem_syntax.specs.Reading.{grammar}
+use Rattle.hem_grammar.specs.Draft.{grammar}
 use Rattle.hem_text.specs.Faults.{IsFirstFault}
 use Rattle.hem_parser.specs.Reading.{begin, IsFirstProtocolFault}
 use Rattle.hem_parser.proofs.Using.{if_err, fails_written}

@@ -1,6 +1,6 @@
 use Rattle.std.proofs.Common.{ap, ◌∙◌}
 use Rattle.std.proofs.Common.{◌+◌, Some, None}
-use Rattle.hem_base.specs.Machine.{lexeme}
+use Rattle.hem_text.specs.Grammars.{lexeme}
 use Rattle.hem_parser.specs.Reading.{use_cause}
 use Rattle.hem_parser.proofs.Using.{got, got_none, span_at, used_at, reads_used, fails_used, ends_used}
 use Rattle.hem_parser.proofs.reading.used.Goals as goal

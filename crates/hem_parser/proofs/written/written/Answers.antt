@@ -3,7 +3,7 @@ use Rattle.hem_text.proofs.Within.{spans_of}
 use Rattle.hem_text.specs.Cursors.{lexemes_from}
 use Rattle.hem_parser.proofs.Lawful.{lawful_out}
 use Rattle.hem_parser.proofs.Using.{put_all, read_out, fails_out}
-use Rattle.hem_syntax.specs.Grammar.{start}
+use Rattle.hem_grammar.specs.Grammar.{start}
 use Rattle.hem_parser.proofs.written.written.Goals as goal
 
 pub read-requires-clause-spans : goal.read-requires-clause-spans

@@ -1,5 +1,5 @@
 use Rattle.std.proofs.Common.{◌≡◌, ◌+◌, cond, refl, sym}
-use Rattle.hem_base.specs.Machine.{lexeme, comes_again, heads}
+use Rattle.hem_text.specs.Grammars.{lexeme, comes_again, heads}
 use Rattle.hem_text.proofs.Ways.{found_way, no_way, pass_way, find_passes}
 use Rattle.hem_text.proofs.machine.find_way.Goals as goal
 use Rattle.hem_text.proofs.machine.find_way.Goals.{then-comes_again, else-comes_again}

@@ -1,5 +1,5 @@
 use Rattle.std.proofs.Common.{◌≡◌, drop}
-use Rattle.hem_base.specs.Machine.{way_at, state, lexeme}
+use Rattle.hem_text.specs.Grammars.{way_at, state, lexeme}
 use Rattle.hem_text.proofs.machine.find_way.Given as goal
 
 abbrev pub invariant-loop-depth : goal.invariant-loop-depth

@@ -1,5 +1,5 @@
 use Rattle.std.proofs.Common.{sym}
-use Rattle.hem_base.specs.Machine.{is_plain}
+use Rattle.hem_text.specs.Grammars.{is_plain}
 use Rattle.hem_text.proofs.Ways.{all_found, all_none, all_pass}
 use Rattle.hem_text.proofs.machine.only_plain.Goals as goal
 

@@ -1,6 +1,6 @@
 use Rattle.std.proofs.Common.{◌≡◌, drop}
 use Rattle.std.specs.List.{list_all}
-use Rattle.hem_base.specs.Machine.{standing, is_plain}
+use Rattle.hem_text.specs.Grammars.{standing, is_plain}
 use Rattle.hem_text.proofs.machine.only_plain.Given as goal
 
 abbrev pub invariant-loop-depth : goal.invariant-loop-depth

@@ -1,5 +1,5 @@
 use Rattle.std.proofs.Common.{sym}
-use Rattle.hem_base.specs.Machine.{is_used}
+use Rattle.hem_text.specs.Grammars.{is_used}
 use Rattle.hem_text.proofs.Ways.{any_found, any_none, any_pass}
 use Rattle.hem_text.proofs.machine.some_used.Goals as goal
 

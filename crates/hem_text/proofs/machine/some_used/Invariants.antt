@@ -1,6 +1,6 @@
 use Rattle.std.proofs.Common.{◌≡◌, drop}
 use Rattle.std.specs.List.{list_any}
-use Rattle.hem_base.specs.Machine.{standing, is_used}
+use Rattle.hem_text.specs.Grammars.{standing, is_used}
 use Rattle.hem_text.proofs.machine.some_used.Given as goal
 
 abbrev pub invariant-loop-depth : goal.invariant-loop-depth

@@ -1,7 +1,7 @@
 use Rattle.std.proofs.Common.{◌≡◌, ◌+◌, ◌≤◌, take}
 use Rattle.std.specs.Prelude.{fold}
-use Rattle.hem_base.specs.declared.text.Place.{Place}
-use Rattle.hem_base.specs.Tokens.{advance}
+use Rattle.hem_text.specs.declared.text.Place.{Place}
+use Rattle.hem_text.specs.Tokens.{advance}
 use Rattle.hem_text.proofs.piece.place_after.Given as goal
 
 abbrev pub invariant-loop-b : goal.invariant-loop-b

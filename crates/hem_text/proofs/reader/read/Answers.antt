@@ -1,7 +1,7 @@
 use Rattle.std.proofs.Common.{◌≡◌, true, false, length, arith}
-use Rattle.hem_base.specs.declared.text.Token.{Token}
-use Rattle.hem_base.specs.declared.text.TokenKind.TheVariants.{Word}
-use Rattle.hem_base.specs.Machine.{state}
+use Rattle.hem_text.specs.declared.text.Token.{Token}
+use Rattle.hem_text.specs.declared.text.TokenKind.TheVariants.{Word}
+use Rattle.hem_text.specs.Grammars.{state}
 use Rattle.hem_text.proofs.FirstFaults.{run_next, refused_first, ended_first, read_only}
 use Rattle.hem_text.proofs.reader.read.Goals as goal
 

@@ -1,6 +1,6 @@
 use Rattle.std.proofs.Common.{◌≡◌, ◌-◌, drop, take, Some}
 use Rattle.std.specs.Prelude.{map}
-use Rattle.hem_base.specs.Machine.{state, run, full, lexeme_of}
+use Rattle.hem_text.specs.Grammars.{state, run, full, lexeme_of}
 use Rattle.hem_text.proofs.reader.read.Given as goal
 
 abbrev pub invariant-loop-i : goal.invariant-loop-i

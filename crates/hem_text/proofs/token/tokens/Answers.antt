@@ -2,9 +2,9 @@ use Rattle.std.proofs.Common.{◌≡◌, ◌+◌, ◌-◌, ◌≤◌, [], sym, a
 use Rattle.std.specs.Prelude.{fold}
 use Rattle.std.proofs.lemmas.List.{take_rest, length-take, length-drop}
 use Rattle.std.proofs.lemmas.List.Elements.{All-push}
-use Rattle.hem_base.specs.Spans.{IsSpan}
+use Rattle.hem_text.specs.Spans.{IsSpan}
 use Rattle.std.proofs.ResultArms.{chosen}
-use Rattle.hem_base.specs.Tokens.{piece_of, advance, tokens_of}
+use Rattle.hem_text.specs.Tokens.{piece_of, advance, tokens_of}
 use Rattle.hem_text.proofs.Cut.{one_more, joins, passes}
 use Rattle.hem_text.proofs.Order.{in_order}
 use Rattle.std.proofs.lemmas.List.{append-nil, drop_all}

@@ -1,5 +1,5 @@
 use Rattle.std.proofs.Common.{◌≡◌, ◌∙◌, ℕ, Bool, ◌&&◌, not, refl}
-use Rattle.hem_syntax.specs.Guard.{is_requester}
+use Rattle.hem_object.specs.Guard.{is_requester}
 use Rattle.hem_object.specs.Targets.{kid_is_in}
 use Rattle.hem_object.proofs.Targets.{bits_where-lt, bits_where-suc, entry_is_in}
 use Rattle.hem_object.proofs.local.Local.others_in.Goals as goal

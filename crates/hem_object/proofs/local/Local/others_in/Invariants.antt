@@ -1,6 +1,6 @@
 use Rattle.std.proofs.Common.{◌≡◌, ◌&&◌, not}
 use Rattle.hem_base.specs.Sets.{bits_where}
-use Rattle.hem_syntax.specs.Guard.{is_requester}
+use Rattle.hem_object.specs.Guard.{is_requester}
 use Rattle.hem_object.specs.Targets.{kid_is_in}
 use Rattle.hem_object.proofs.local.Local.others_in.Given as goal
 

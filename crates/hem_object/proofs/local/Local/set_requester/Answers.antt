@@ -1,5 +1,5 @@
 use Rattle.std.proofs.Common.{◌∙◌, ◌<◌, length}
-use Rattle.hem_syntax.specs.Guard.{is_requester}
+use Rattle.hem_object.specs.Guard.{is_requester}
 use Rattle.hem_object.proofs.Entries.{set_at-more, length-cond_set}
 use Rattle.hem_object.proofs.local.Local.set_requester.Goals as goal
 

@@ -1,5 +1,5 @@
 use Rattle.std.proofs.Common.{◌≡◌, take, drop, ◌++◌, length}
-use Rattle.hem_syntax.specs.Guard.{is_requester}
+use Rattle.hem_object.specs.Guard.{is_requester}
 use Rattle.hem_object.specs.Changes.{set_at}
 use Rattle.hem_object.proofs.local.Local.set_requester.Given as goal
 

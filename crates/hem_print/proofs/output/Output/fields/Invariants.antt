@@ -1,5 +1,5 @@
 use Rattle.std.proofs.Common.{◌≡◌, ◌++◌, map, drop}
-use Rattle.hem_syntax.specs.Canonical.{lines_text, field_line}
+use Rattle.hem_print.specs.Canonical.{lines_text, field_line}
 use Rattle.hem_print.proofs.output.Output.fields.Given as goal
 
 -- the text so far and the fields that are left make the whole text

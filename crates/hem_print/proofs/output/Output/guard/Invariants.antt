@@ -1,6 +1,6 @@
 use Rattle.std.proofs.Common.{◌≡◌, ◌++◌, drop}
 use Rattle.std.specs.Prelude.{codes}
-use Rattle.hem_syntax.specs.Canonical.{atom_words}
+use Rattle.hem_print.specs.Canonical.{atom_words}
 use Rattle.hem_print.proofs.Led.{led_text}
 use Rattle.hem_print.proofs.output.Output.guard.Given as goal
 

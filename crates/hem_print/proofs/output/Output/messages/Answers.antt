@@ -1,4 +1,4 @@
-use Rattle.hem_syntax.specs.Canonical.{message_line}
+use Rattle.hem_print.specs.Canonical.{message_line}
 use Rattle.hem_print.proofs.Led.{line_at}
 use Rattle.hem_print.proofs.output.Output.messages.Goals as goal
 

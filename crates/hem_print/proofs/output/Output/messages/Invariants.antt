@@ -1,5 +1,5 @@
 use Rattle.std.proofs.Common.{◌≡◌, ◌++◌, map, drop}
-use Rattle.hem_syntax.specs.Canonical.{lines_text, message_line}
+use Rattle.hem_print.specs.Canonical.{lines_text, message_line}
 use Rattle.hem_print.proofs.output.Output.messages.Given as goal
 
 -- the text so far and the messages that are left make the whole text

@@ -1,7 +1,7 @@
 use Rattle.std.proofs.Common.{ap, ◌∙◌, ◌++◌}
 use Rattle.std.proofs.lemmas.Result.{on_ok_weaker}
 use Rattle.hem_base.specs.declared.words.Reserved.TheVariants as word
-use Rattle.hem_syntax.specs.Canonical.{plain, words_text, take_words, need_words, led, atom_words, assign_words, free_words, lock_words, send_words}
+use Rattle.hem_print.specs.Canonical.{plain, words_text, take_words, need_words, led, atom_words, assign_words, free_words, lock_words, send_words}
 use Rattle.hem_print.proofs.Led.{rule_chain}
 use Rattle.hem_print.proofs.output.Output.rule_words.Goals as goal
 

@@ -1,5 +1,5 @@
 use Rattle.std.proofs.Common.{rules}
-use Rattle.hem_syntax.specs.Canonical.{rule_line}
+use Rattle.hem_print.specs.Canonical.{rule_line}
 use Rattle.hem_print.proofs.Led.{line_more}
 use Rattle.hem_print.proofs.output.Output.rules.Goals as goal
 

@@ -1,5 +1,5 @@
 use Rattle.std.proofs.Common.{◌≡◌, ◌++◌, drop}
-use Rattle.hem_syntax.specs.Canonical.{words_text, names_in}
+use Rattle.hem_print.specs.Canonical.{words_text, names_in}
 use Rattle.hem_print.proofs.output.Output.set.Given as goal
 
 -- the text so far and the statuses that are left make the whole text

@@ -1,6 +1,6 @@
 use Rattle.std.proofs.Common.{◌≡◌, ◌++◌, drop}
 use Rattle.std.specs.Prelude.{codes}
-use Rattle.hem_syntax.specs.Canonical.{assign_words}
+use Rattle.hem_print.specs.Canonical.{assign_words}
 use Rattle.hem_print.proofs.Led.{led_text}
 use Rattle.hem_print.proofs.output.Output.sets.Given as goal
 

@@ -1,5 +1,5 @@
 use Rattle.std.proofs.Common.{◌≡◌, ◌++◌, map, drop}
-use Rattle.hem_syntax.specs.Canonical.{named, words_text}
+use Rattle.hem_print.specs.Canonical.{named, words_text}
 use Rattle.hem_print.proofs.output.Output.statuses.Given as goal
 
 -- the text so far and the names that are left make the whole text

@@ -1,16 +1,15 @@
 //! The grammar of histories.
 
 ghost use Rattle.std.specs.Prelude.{◌≡◌, ◌-◌, length, slice_get, unwrap_or, IfOk};
-ghost use Rattle.hem_base.specs.Machine.{lexeme};
-ghost use Rattle.hem_base.specs.Words.{is_name};
-ghost use Rattle.hem_syntax.specs.Reading.{is_word, is_number, is_the_word, place_in};
-ghost use Rattle.hem_trace.specs.Grammar.{start, firsts, follows, stands, with_child, grammar, nothing};
+ghost use Rattle.hem_text.specs.Grammars.{lexeme};
+ghost use Rattle.hem_text.specs.Spelling.{is_name};
+ghost use Rattle.hem_grammar.specs.Draft.{place_in};
+ghost use Rattle.hem_text.specs.Spelling.{is_word, is_number, is_the_word};
+ghost use Rattle.hem_history.specs.Grammar.{start, firsts, follows, stands, with_child, grammar, nothing};
 
 use crate::limits::{MOST_FIRINGS, MOST_NUMBER};
-use hem_base::{
-    Firing, LineId, List, ObjectId, OutOfMemory, Place, Reserved, RuleId, Stands, Symbol,
-    TokenKind, is_name, word_bytes,
-};
+use hem_base::{Firing, LineId, List, ObjectId, OutOfMemory, Reserved, RuleId, word_bytes};
+use hem_text::{Place, Stands, Symbol, TokenKind, is_name};
 use hem_syntax::{Names, Protocol};
 use hem_text::{Language, is_at_most, value_of};
 use std::alloc::Global;
@@ -54,7 +53,7 @@ pub struct HistoryDraft<'a> {
 }
 
 impl<'a> Model for HistoryDraft<'a> {
-    ghost use Rattle.hem_trace.specs.Grammar.{Read};
+    ghost use Rattle.hem_history.specs.Grammar.{Read};
 
     ghost Value = { Read };
 

@@ -3,20 +3,21 @@ use Rattle.std.specs.Prelude.{ℕ, ◌-◌, ◌&&◌, Bool, true, List, [], ◌�
 use Rattle.hem_base.specs.declared.ids.LineId.{LineId}
 use Rattle.hem_base.specs.declared.ids.ObjectId.{ObjectId}
 use Rattle.hem_base.specs.declared.ids.Firing.{Firing}
-use Rattle.hem_base.specs.declared.grammar.Symbol.{Symbol}
-use Rattle.hem_base.specs.declared.grammar.Symbol.TheVariants.{One, Maybe, Many}
-use Rattle.hem_base.specs.declared.grammar.Stands.{Stands}
-use Rattle.hem_base.specs.declared.grammar.Stands.TheVariants as stand
+use Rattle.hem_text.specs.declared.symbol.Symbol.{Symbol}
+use Rattle.hem_text.specs.declared.symbol.Symbol.TheVariants.{One, Maybe, Many}
+use Rattle.hem_text.specs.declared.symbol.Stands.{Stands}
+use Rattle.hem_text.specs.declared.symbol.Stands.TheVariants as stand
 use Rattle.hem_base.specs.declared.words.Reserved.TheVariants as word
-use Rattle.hem_base.specs.Machine.{Grammar, Lexeme}
+use Rattle.hem_text.specs.Grammars.{Grammar, Lexeme}
 use Rattle.hem_syntax.specs.Protocol.{Text, Protocol}
-use Rattle.hem_base.specs.Words.{is_name}
-use Rattle.hem_syntax.specs.Reading.{is_word, is_number, is_the_word, place_in}
-use Rattle.hem_trace.specs.declared.draft.Terminal.{Terminal}
-use Rattle.hem_trace.specs.declared.draft.Terminal.TheVariants as the
-use Rattle.hem_trace.specs.declared.draft.Item.{Item}
-use Rattle.hem_trace.specs.declared.draft.Item.TheVariants as item
-use Rattle.hem_trace.specs.declared.limits.TheConstants.{MOST_FIRINGS, MOST_NUMBER}
+use Rattle.hem_text.specs.Spelling.{is_name}
+use Rattle.hem_grammar.specs.Draft.{place_in}
+use Rattle.hem_text.specs.Spelling.{is_word, is_number, is_the_word}
+use Rattle.hem_history.specs.declared.draft.Terminal.{Terminal}
+use Rattle.hem_history.specs.declared.draft.Terminal.TheVariants as the
+use Rattle.hem_history.specs.declared.draft.Item.{Item}
+use Rattle.hem_history.specs.declared.draft.Item.TheVariants as item
+use Rattle.hem_history.specs.declared.limits.TheConstants.{MOST_FIRINGS, MOST_NUMBER}
 use Rattle.hem_text.specs.Numbers.{number_of}
 
 -- what has been read of a history, over the rule names of a protocol: the firings, and the line and the object of the one that is being read

@@ -2,8 +2,7 @@
 use Rattle.std.specs.Prelude.{ℕ, ◌==◌, ◌&&◌, ◌||◌, Bool, true, false, not, List, [], ◌∷◌, ◌++◌, length, Option, Some, None, unwrap_or, option_map, nat_lt, nat_le, bit_or, codes, if◌then◌else◌}
 use Rattle.std.specs.List.{list_any, list_all}
 use Rattle.std.specs.Str.{bytes_eq}
-use Rattle.hem_base.specs.declared.text.TokenKind.{TokenKind}
-use Rattle.hem_base.specs.declared.text.TokenKind.TheVariants as kind
+use Rattle.hem_text.specs.declared.text.TokenKind.{TokenKind}
 use Rattle.hem_base.specs.declared.words.Reserved.{Reserved}
 use Rattle.hem_base.specs.declared.words.Reserved.TheVariants as word
 use Rattle.hem_base.specs.declared.words.Sign.{Sign}
@@ -12,9 +11,10 @@ use Rattle.hem_base.specs.declared.ids.Status8.{Status8}
 use Rattle.hem_base.specs.declared.ids.StatusSet.{StatusSet}
 use Rattle.hem_base.specs.declared.ids.MsgId.{MsgId}
 use Rattle.hem_base.specs.declared.ids.RuleId.{RuleId}
-use Rattle.hem_base.specs.Machine.{Grammar}
+use Rattle.hem_text.specs.Grammars.{Grammar}
 use Rattle.hem_base.specs.Sets.{has_bit}
-use Rattle.hem_base.specs.Words.{word_bytes, sign_bytes, is_name}
+use Rattle.hem_base.specs.Words.{word_bytes, sign_bytes}
+use Rattle.hem_text.specs.Spelling.{is_word, is_sign, is_number, is_the_word, is_the_sign, is_zero, is_name}
 use Rattle.hem_syntax.specs.declared.rule.Class.{Class}
 use Rattle.hem_syntax.specs.declared.rule.Class.TheVariants as class
 use Rattle.hem_syntax.specs.declared.rule.Hold.{Hold}
@@ -34,21 +34,21 @@ use Rattle.hem_syntax.specs.declared.rule.Assign.TheVariants as setting
 use Rattle.hem_syntax.specs.declared.rule.SendTo.{SendTo}
 use Rattle.hem_syntax.specs.declared.rule.SendTo.TheVariants as sending
 use Rattle.hem_syntax.specs.declared.rule.Rule.{Rule}
-use Rattle.hem_syntax.specs.declared.grammar.Terminal.{Terminal}
-use Rattle.hem_syntax.specs.declared.grammar.Terminal.TheVariants as the
-use Rattle.hem_syntax.specs.declared.grammar.Part.{Part}
-use Rattle.hem_syntax.specs.declared.grammar.Part.TheVariants as part
-use Rattle.hem_syntax.specs.declared.grammar.RulePart.{RulePart}
-use Rattle.hem_syntax.specs.declared.grammar.RulePart.TheVariants as rule
-use Rattle.hem_syntax.specs.declared.grammar.AtomPart.{AtomPart}
-use Rattle.hem_syntax.specs.declared.grammar.AtomPart.TheVariants as atom
-use Rattle.hem_syntax.specs.declared.grammar.AssignPart.{AssignPart}
-use Rattle.hem_syntax.specs.declared.grammar.AssignPart.TheVariants as assign
-use Rattle.hem_syntax.specs.declared.grammar.SendPart.{SendPart}
-use Rattle.hem_syntax.specs.declared.grammar.SendPart.TheVariants as send
-use Rattle.hem_syntax.specs.declared.grammar.Item.{Item}
+use Rattle.hem_grammar.specs.declared.terminals.Terminal.{Terminal}
+use Rattle.hem_grammar.specs.declared.terminals.Terminal.TheVariants as the
+use Rattle.hem_grammar.specs.declared.terminals.Part.{Part}
+use Rattle.hem_grammar.specs.declared.terminals.Part.TheVariants as part
+use Rattle.hem_grammar.specs.declared.terminals.RulePart.{RulePart}
+use Rattle.hem_grammar.specs.declared.terminals.RulePart.TheVariants as rule
+use Rattle.hem_grammar.specs.declared.terminals.AtomPart.{AtomPart}
+use Rattle.hem_grammar.specs.declared.terminals.AtomPart.TheVariants as atom
+use Rattle.hem_grammar.specs.declared.terminals.AssignPart.{AssignPart}
+use Rattle.hem_grammar.specs.declared.terminals.AssignPart.TheVariants as assign
+use Rattle.hem_grammar.specs.declared.terminals.SendPart.{SendPart}
+use Rattle.hem_grammar.specs.declared.terminals.SendPart.TheVariants as send
+use Rattle.hem_grammar.specs.declared.terminals.Item.{Item}
 use Rattle.hem_syntax.specs.Protocol.{Text, KindPart, Protocol, empty_part}
-use Rattle.hem_syntax.specs.Grammar.{firsts, follows, stands}
+use Rattle.hem_grammar.specs.Grammar.{firsts, follows, stands}
 pub use Rattle.hem_syntax.specs.Names.{place_in, is_in, place_among, is_among, last_or, set_last, with_last}
 
 -- what has been read of a protocol: its name and declarations, the finished root and mid, the kind that is being read, and its rule that is being read
@@ -63,35 +63,6 @@ pub record Read : Type 0 where
   pub dir : Option Status8
   pub rules : List Rule
   pub rule : Rule
-
--- words, signs and names
-
--- whether a token is a word
-abbrev pub is_word : TokenKind → Bool
-is_word kind.Word = true
-is_word _ = false
-
--- whether a token is a sign
-abbrev pub is_sign : TokenKind → Bool
-is_sign kind.Sign = true
-is_sign _ = false
-
--- whether a token is a number
-abbrev pub is_number : TokenKind → Bool
-is_number kind.Number = true
-is_number _ = false
-
--- whether a token is that reserved word
-abbrev pub is_the_word : Reserved → TokenKind → Text → Bool
-is_the_word w k text = is_word k && bytes_eq (word_bytes w) text
-
--- whether a token is that sign
-abbrev pub is_the_sign : Sign → TokenKind → Text → Bool
-is_the_sign s k text = is_sign k && bytes_eq (sign_bytes s) text
-
--- a number of value 0
-abbrev pub is_zero : TokenKind → Text → Bool
-is_zero k text = is_number k && list_all (λ b. b == 48) text
 
 -- a name has 1 to 32 bytes
 abbrev pub is_short : Text → Bool

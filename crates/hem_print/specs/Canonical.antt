@@ -3,8 +3,8 @@ use Rattle.std.specs.Prelude.{ℕ, ◌+◌, if◌then◌else◌, List, [], ◌�
 use Rattle.std.specs.Option.{option_map_or}
 use Rattle.hem_base.specs.Sets.{has_bit}
 use Rattle.hem_base.specs.Words.{word_bytes, sign_bytes}
-use Rattle.hem_base.specs.declared.text.TokenKind.{TokenKind}
-use Rattle.hem_base.specs.declared.text.TokenKind.TheVariants as token
+use Rattle.hem_text.specs.declared.text.TokenKind.{TokenKind}
+use Rattle.hem_text.specs.declared.text.TokenKind.TheVariants as token
 use Rattle.hem_base.specs.declared.words.Reserved.{Reserved}
 use Rattle.hem_base.specs.declared.words.Reserved.TheVariants as word
 use Rattle.hem_base.specs.declared.words.Sign.{Sign}
@@ -29,7 +29,7 @@ use Rattle.hem_syntax.specs.declared.rule.SendTo.{SendTo}
 use Rattle.hem_syntax.specs.declared.rule.SendTo.TheVariants as send
 use Rattle.hem_syntax.specs.declared.rule.Rule.{Rule}
 use Rattle.hem_syntax.specs.Protocol.{Text, KindPart, Protocol}
-use Rattle.hem_syntax.specs.Reading.{class_word, hold_word, side_word, origin_word}
+use Rattle.hem_grammar.specs.Draft.{class_word, hold_word, side_word, origin_word}
 
 -- a word of a line: a reserved word, a name, a sign, or the number 0
 pub data Word : Type 0 where

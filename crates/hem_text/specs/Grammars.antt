@@ -1,15 +1,15 @@
 -- Documents of a grammar, token by token: which tokens begin one, which are one, and the first fault and its cause.
 use Rattle.std.specs.Prelude.{◌≡◌, ◌≢◌, ℕ, ◌+◌, ◌-◌, ◌<◌, ◌≤◌, Bool, true, false, ◌&&◌, List, [], ◌∷◌, ◌++◌, map, length, take, drop, find, Option, Some, None, is_some, option_and_then, slice_get, if◌then◌else◌}
 use Rattle.std.specs.List.{list_any, list_all}
-use Rattle.hem_base.specs.declared.text.TokenKind.{TokenKind}
-use Rattle.hem_base.specs.declared.text.Token.{Token}
-use Rattle.hem_base.specs.declared.text.Place.{Place}
-use Rattle.hem_base.specs.declared.grammar.Symbol.{Symbol}
-use Rattle.hem_base.specs.declared.grammar.Symbol.TheVariants.{One, Item, Maybe, Many}
-use Rattle.hem_base.specs.declared.grammar.Stands.{Stands}
-use Rattle.hem_base.specs.declared.grammar.Stands.TheVariants.{Reserved, Used, Other}
-use Rattle.hem_base.specs.declared.text.Cause.{Cause}
-use Rattle.hem_base.specs.declared.text.Cause.TheVariants.{Unknown, Repeated, Expected, TooMany}
+use Rattle.hem_text.specs.declared.text.TokenKind.{TokenKind}
+use Rattle.hem_text.specs.declared.text.Token.{Token}
+use Rattle.hem_text.specs.declared.text.Place.{Place}
+use Rattle.hem_text.specs.declared.symbol.Symbol.{Symbol}
+use Rattle.hem_text.specs.declared.symbol.Symbol.TheVariants.{One, Item, Maybe, Many}
+use Rattle.hem_text.specs.declared.symbol.Stands.{Stands}
+use Rattle.hem_text.specs.declared.symbol.Stands.TheVariants.{Reserved, Used, Other}
+use Rattle.hem_text.specs.declared.text.Cause.{Cause}
+use Rattle.hem_text.specs.declared.text.Cause.TheVariants.{Unknown, Repeated, Expected, TooMany}
 
 -- a token as a grammar sees it: its kind, its bytes and its place
 pub record Lexeme : Type 0 where

@@ -1,6 +1,6 @@
 -- Where tokens stand in a text.
 use Rattle.std.specs.Prelude.{ℕ, ◌≤◌, ◌<◌, List, [], ◌∷◌, length}
-use Rattle.hem_base.specs.declared.text.Token.{Token}
+use Rattle.hem_text.specs.declared.text.Token.{Token}
 
 -- the token has some bytes, and they stand in the text
 abbrev pub IsSpan : List ℕ → Token → Type 0

@@ -3,15 +3,15 @@ use Rattle.std.proofs.Common.{◌≡◌, ℕ, ◌-◌, ◌≤◌, List, length, 
 use Rattle.std.proofs.lemmas.List.{length-map}
 use Rattle.std.specs.Prelude.{map}
 use Rattle.hem_base.specs.declared.ids.Firing.{Firing}
-use Rattle.hem_base.specs.declared.text.Token.{Token}
-use Rattle.hem_base.specs.declared.grammar.Symbol.{Symbol}
-use Rattle.hem_base.specs.Machine.{state, Reads, lexeme_of}
+use Rattle.hem_text.specs.declared.text.Token.{Token}
+use Rattle.hem_text.specs.declared.symbol.Symbol.{Symbol}
+use Rattle.hem_text.specs.Grammars.{state, Reads, lexeme_of}
 use Rattle.hem_text.specs.Faults.{ReadsOnly}
 use Rattle.hem_syntax.specs.Protocol.{Protocol}
-use Rattle.hem_trace.specs.declared.draft.Terminal.{Terminal}
-use Rattle.hem_trace.specs.declared.draft.Item.{Item}
-use Rattle.hem_trace.specs.Grammar.{Read, grammar, nothing, start}
-use Rattle.hem_trace.specs.Reading.{ReadsHistory}
+use Rattle.hem_history.specs.declared.draft.Terminal.{Terminal}
+use Rattle.hem_history.specs.declared.draft.Item.{Item}
+use Rattle.hem_history.specs.Grammar.{Read, grammar, nothing, start}
+use Rattle.hem_history.specs.Reading.{ReadsHistory}
 
 pub reads_history : (p : Protocol) (bytes : List ℕ) (tokens : List Token) (at end : ℕ) (begin e : Read) (stack : List (Symbol Terminal Item)) → begin ≡ nothing p → stack ≡ start → at ≤ length tokens → at ≤ end
     → Reads grammar (state begin stack) (map (lexeme_of bytes) (drop at tokens)) (end - at) e

@@ -19,30 +19,30 @@ use Rattle.std.specs.Prelude.{List, [], ◌∷◌, ◌++◌}
 use Rattle.hem_base.specs.declared.words.Reserved.{Reserved}
 use Rattle.hem_base.specs.declared.words.Reserved.TheVariants as word
 use Rattle.hem_base.specs.declared.words.Sign.TheVariants as sign
-use Rattle.hem_base.specs.declared.grammar.Symbol.{Symbol}
-use Rattle.hem_base.specs.declared.grammar.Symbol.TheVariants.{One, Item as Some_of, Maybe, Many}
-use Rattle.hem_base.specs.declared.grammar.Stands.{Stands}
-use Rattle.hem_base.specs.declared.grammar.Stands.TheVariants.{Reserved as Plain, Used, Other}
+use Rattle.hem_text.specs.declared.symbol.Symbol.{Symbol}
+use Rattle.hem_text.specs.declared.symbol.Symbol.TheVariants.{One, Item as Some_of, Maybe, Many}
+use Rattle.hem_text.specs.declared.symbol.Stands.{Stands}
+use Rattle.hem_text.specs.declared.symbol.Stands.TheVariants.{Reserved as Plain, Used, Other}
 use Rattle.hem_syntax.specs.declared.rule.Class.TheVariants as class
 use Rattle.hem_syntax.specs.declared.rule.Hold.TheVariants as hold
 use Rattle.hem_syntax.specs.declared.rule.Side.TheVariants as side
 use Rattle.hem_syntax.specs.declared.rule.Origin.TheVariants as origin
 use Rattle.hem_syntax.specs.declared.rule.Value.{Value}
 use Rattle.hem_syntax.specs.declared.rule.Value.TheVariants as value
-use Rattle.hem_syntax.specs.declared.grammar.Terminal.{Terminal}
-use Rattle.hem_syntax.specs.declared.grammar.Terminal.TheVariants as the
-use Rattle.hem_syntax.specs.declared.grammar.Part.{Part}
-use Rattle.hem_syntax.specs.declared.grammar.Part.TheVariants as part
-use Rattle.hem_syntax.specs.declared.grammar.RulePart.{RulePart}
-use Rattle.hem_syntax.specs.declared.grammar.RulePart.TheVariants as rule
-use Rattle.hem_syntax.specs.declared.grammar.AtomPart.{AtomPart}
-use Rattle.hem_syntax.specs.declared.grammar.AtomPart.TheVariants as atom
-use Rattle.hem_syntax.specs.declared.grammar.AssignPart.{AssignPart}
-use Rattle.hem_syntax.specs.declared.grammar.AssignPart.TheVariants as assign
-use Rattle.hem_syntax.specs.declared.grammar.SendPart.{SendPart}
-use Rattle.hem_syntax.specs.declared.grammar.SendPart.TheVariants as send
-use Rattle.hem_syntax.specs.declared.grammar.Item.{Item}
-use Rattle.hem_syntax.specs.declared.grammar.Item.TheVariants as item
+use Rattle.hem_grammar.specs.declared.terminals.Terminal.{Terminal}
+use Rattle.hem_grammar.specs.declared.terminals.Terminal.TheVariants as the
+use Rattle.hem_grammar.specs.declared.terminals.Part.{Part}
+use Rattle.hem_grammar.specs.declared.terminals.Part.TheVariants as part
+use Rattle.hem_grammar.specs.declared.terminals.RulePart.{RulePart}
+use Rattle.hem_grammar.specs.declared.terminals.RulePart.TheVariants as rule
+use Rattle.hem_grammar.specs.declared.terminals.AtomPart.{AtomPart}
+use Rattle.hem_grammar.specs.declared.terminals.AtomPart.TheVariants as atom
+use Rattle.hem_grammar.specs.declared.terminals.AssignPart.{AssignPart}
+use Rattle.hem_grammar.specs.declared.terminals.AssignPart.TheVariants as assign
+use Rattle.hem_grammar.specs.declared.terminals.SendPart.{SendPart}
+use Rattle.hem_grammar.specs.declared.terminals.SendPart.TheVariants as send
+use Rattle.hem_grammar.specs.declared.terminals.Item.{Item}
+use Rattle.hem_grammar.specs.declared.terminals.Item.TheVariants as item
 
 -- a reserved word that says nothing more
 abbrev pub w : Reserved → Symbol Terminal Item

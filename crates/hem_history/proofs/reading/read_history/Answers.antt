@@ -1,7 +1,7 @@
 use Rattle.std.proofs.Common.{ap, ◌∙◌, rules}
 use Rattle.hem_text.proofs.Within.{spans_of}
-use Rattle.hem_trace.proofs.Answered.{reads_history}
-use Rattle.hem_trace.proofs.reading.read_history.Goals as goal
+use Rattle.hem_history.proofs.Answered.{reads_history}
+use Rattle.hem_history.proofs.reading.read_history.Goals as goal
 
 pub read-requires-clause-spans : goal.read-requires-clause-spans
 read-requires-clause-spans c _ = spans_of c.args.cursor.now.bytes.now c.args.cursor.now.tokens.now c.requires.whole

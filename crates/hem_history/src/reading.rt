@@ -1,11 +1,11 @@
 //! The reader of histories.
 
 ghost use Rattle.std.specs.Prelude.{◌≡◌, IfOk, IfErr, OnErr};
-ghost use Rattle.hem_base.specs.Machine.{state};
+ghost use Rattle.hem_text.specs.Grammars.{state};
 ghost use Rattle.hem_text.specs.Cursors.{IsCursor};
 ghost use Rattle.hem_text.specs.Faults.{IsFirstFault};
-ghost use Rattle.hem_trace.specs.Grammar.{start, grammar, nothing};
-ghost use Rattle.hem_trace.specs.Reading.{ReadsHistory};
+ghost use Rattle.hem_history.specs.Grammar.{start, grammar, nothing};
+ghost use Rattle.hem_history.specs.Reading.{ReadsHistory};
 
 use crate::draft::{HistoryDraft, nothing, start};
 use hem_base::Firing;

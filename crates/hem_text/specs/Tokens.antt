@@ -2,11 +2,12 @@
 use Rattle.std.specs.Prelude.{ℕ, zero, suc, ◌+◌, ◌-◌, ◌==◌, ◌||◌, ◌&&◌, Bool, false, not, List, [], ◌∷◌, take, Some, None, fold, if◌then◌else◌}
 use Rattle.std.specs.List.{prefix_len, list_all}
 use Rattle.std.specs.Char.{is_ascii_alphabetic, is_ascii_digit}
-use Rattle.hem_base.specs.declared.text.Token.{Token}
-use Rattle.hem_base.specs.declared.text.Place.{Place}
-use Rattle.hem_base.specs.declared.text.TokenKind.{TokenKind}
-use Rattle.hem_base.specs.declared.text.TokenKind.TheVariants.{Word, Number, Sign, Bad}
-use Rattle.hem_base.specs.declared.text.Piece.{Piece}
+use Rattle.hem_text.specs.declared.text.Token.{Token}
+use Rattle.hem_text.specs.declared.text.Place.{Place}
+use Rattle.hem_text.specs.declared.text.TokenKind.{TokenKind}
+use Rattle.hem_text.specs.declared.text.TokenKind.TheVariants.{Word, Number, Sign, Bad}
+use Rattle.hem_text.specs.declared.text.Piece.{Piece}
+use Rattle.hem_base.specs.Words.{is_word_byte}
 
 -- white space: space, tab, carriage return, line feed
 abbrev pub is_space : ℕ → Bool
@@ -19,10 +20,6 @@ begins_comment b = b == 35
 -- a comment goes on to before the next line feed
 abbrev pub is_not_line_feed : ℕ → Bool
 is_not_line_feed b = not (b == 10)
-
--- the bytes of runs: letters, digits and _
-abbrev pub is_word_byte : ℕ → Bool
-is_word_byte b = is_ascii_alphabetic b || is_ascii_digit b || b == 95
 
 -- the signs of one byte: ( ) , = |
 abbrev pub is_sign : ℕ → Bool

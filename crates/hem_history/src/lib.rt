@@ -1,0 +1,10 @@
+//! The reader of histories.
+#![tactic(auto)]
+
+mod draft;
+mod limits;
+mod reading;
+
+pub use draft::{HistoryDraft, Item, Terminal};
+pub use limits::MOST_FIRINGS;
+pub use reading::read_history;
