@@ -104,9 +104,9 @@ fn left_of(row: &Fires) -> Result<Local, Fail> {
 
 /// What the firing is to take and to send.
 fn outs_of(row: &Fires) -> Outs {
-    let (taken_me, taken_parent, kids) = row.4;
+    let (taken_request, taken_parent, kids) = row.4;
     Outs {
-        taken_me,
+        taken_request,
         taken_parent,
         taken_kids: KidSet(kids),
         to: row.5,

@@ -12,7 +12,7 @@ use Rattle.hem_object.specs.Local.{Local, nobody}
 
 -- the heads of an object's input lists: the requester's requests, the parent's messages, each child's responses
 pub record Heads : Type 0 where
-  pub me : Option Message
+  pub request : Option Message
   pub parent : Option Message
   pub kids : List (Option Message)
 
@@ -34,7 +34,7 @@ awaited_heads local heads = heads_at (awaited_of local) heads
 
 -- the messages that the rule takes are there
 abbrev pub takes_there : Take → Local → Heads → Bool
-takes_there (take.Me id) local heads = has_id heads.me id
+takes_there (take.Me id) local heads = has_id heads.request id
 takes_there (take.Parent id) local heads = has_id heads.parent id
 takes_there (take.Kids id) local heads =
     let awaited = awaited_heads local heads in nat_lt 0 (length awaited) && list_all (λ k. has_id k.1 id) awaited

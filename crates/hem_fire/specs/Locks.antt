@@ -44,14 +44,14 @@ first_of (Some m) other = Some m
 
 -- the request that a lock of this firing keeps
 abbrev pub request_in_hand : Protocol → Take → SendTo → Local → View → Heads → Option Message
-request_in_hand p (take.Me id) to local view heads = if_request p heads.me
+request_in_hand p (take.Me id) to local view heads = if_request p heads.request
 request_in_hand p (take.Parent id) to local view heads = first_of (if_request p heads.parent) view.kept
 request_in_hand p (take.Kids id) to local view heads = view.kept
 request_in_hand p take.Nothing to local view heads = message_of to local view
 
 -- the holder of a new lock
 abbrev pub lock_by : Origin → View → Option By
-lock_by origin.Child view = view.me
+lock_by origin.Child view = view.requester
 lock_by origin.Parent view = Some Parent
 lock_by origin.Own view = Some Own
 

@@ -56,7 +56,7 @@ abbrev pub outs_of : Protocol → Kind → Rule → Option ℕ → Local → Hea
 outs_of p kind rule me local heads =
     let view = view_of rule.take me local heads in
     record {
-      taken_me = elim rule.take [ take.Me id ↦ true | _ ↦ false ];
+      taken_request = elim rule.take [ take.Me id ↦ true | _ ↦ false ];
       taken_parent = elim rule.take [ take.Parent id ↦ true | _ ↦ false ];
       taken_kids = view.awaited;
       to = goes_to p rule.send local view;

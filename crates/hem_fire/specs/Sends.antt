@@ -49,7 +49,7 @@ to_requester (Some by) = elim by [ Processor ↦ to.Answer | Kid c ↦ to.Kid c 
 -- where the firing sends
 abbrev pub goes_to : Protocol → SendTo → Local → View → To
 goes_to p send.Nothing local view = to.Nobody
-goes_to p (send.Me id v) local view = to_requester view.me
+goes_to p (send.Me id v) local view = to_requester view.requester
 goes_to p (send.Parent id v) local view =
     elim (class_of p id) [ None ↦ to.UpRequest | Some c ↦ elim c [ UpRsp ↦ to.UpResponse | _ ↦ to.UpRequest ] ]
 goes_to p (send.Kids set id v) local view = to.Kids (targets_of (send.Kids set id v) local view)

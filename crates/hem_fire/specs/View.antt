@@ -36,16 +36,16 @@ requester (Some c) = Kid c
 -- what the rule names in a firing
 abbrev pub view_of : Take → Option ℕ → Local → Heads → View
 view_of (take.Me id) me local heads =
-    record { me = Some (requester me); msg = value_in heads.me; rs = None; kept = None; awaited = nobody }
+    record { requester = Some (requester me); msg = value_in heads.request; rs = None; kept = None; awaited = nobody }
 view_of (take.Parent id) me local heads =
-    record { me = asker local.up; msg = value_in heads.parent; rs = None; kept = request_of local.up; awaited = nobody }
+    record { requester = asker local.up; msg = value_in heads.parent; rs = None; kept = request_of local.up; awaited = nobody }
 view_of (take.Kids id) me local heads =
     record {
-      me = kid_asker local.down;
+      requester = kid_asker local.down;
       msg = None;
       rs = option_and_then (λ k. value_in k.1) (slice_get (awaited_heads local heads) 0);
       kept = request_of local.down;
       awaited = awaited_of local;
     }
 view_of take.Nothing me local heads =
-    record { me = None; msg = None; rs = None; kept = None; awaited = nobody }
+    record { requester = None; msg = None; rs = None; kept = None; awaited = nobody }

@@ -14,8 +14,7 @@ use crate::outs::Outs;
 use crate::sends::{goes_to, message_of};
 use crate::view::view_of;
 use hem_base::{Kind, Message, MsgId};
-use hem_object::Local;
-use hem_object::{Lock, View};
+use hem_object::{Local, Lock, View};
 use hem_syntax::{Protocol, Rule, Side, Take};
 
 /// What the firing takes and sends, in this view.
@@ -23,7 +22,7 @@ fn outs_in(p: &Protocol, rule: &Rule, local: &Local, view: &View) -> Outs
     ensures { (kind : Kind) (me : Option ℕ) (heads : Heads) → view.now ≡ view_of rule.now.take me local.now heads → result ≡ outs_of p.now kind rule.now me local.now heads }
 {
     Outs {
-        taken_me: matches!(rule.take, Take::Me(_)),
+        taken_request: matches!(rule.take, Take::Me(_)),
         taken_parent: matches!(rule.take, Take::Parent(_)),
         taken_kids: view.awaited,
         to: goes_to(p, rule.send, local, view),

@@ -16,7 +16,7 @@ use std::marker::Model;
 #[derive(Drop)]
 pub struct Heads {
     /// The head of the requests of the child that the firing names; on a leaf, of the processor's requests.
-    pub me: Option<Message>,
+    pub request: Option<Message>,
     /// The head of the parent's messages.
     pub parent: Option<Message>,
     /// The head of each child's responses, by the child's place; `None` where a child has sent none.
@@ -28,7 +28,7 @@ impl Model for Heads {
 
     ghost Value = { Seen };
 
-    ghost view = { λ a. record { me = a.me; parent = a.parent; kids = a.kids.items } };
+    ghost view = { λ a. record { request = a.request; parent = a.parent; kids = a.kids.items } };
 }
 
 /// Whether a message is there and has the id.
@@ -97,7 +97,7 @@ impl Heads {
         ensures { result ≡ takes_there take local.now self.now }
     {
         match take {
-            Take::Me(id) => has_id(self.me, id),
+            Take::Me(id) => has_id(self.request, id),
             Take::Parent(id) => has_id(self.parent, id),
             Take::Kids(id) => {
                 let awaited = awaited_of(local);

@@ -7,8 +7,7 @@ use crate::heads::Heads;
 use crate::lookup::is_request_id;
 use crate::sends::message_of;
 use hem_base::{KidSet, Message};
-use hem_object::Local;
-use hem_object::{By, Lock, View};
+use hem_object::{By, Local, Lock, View};
 use hem_syntax::{Hold, Origin, Protocol, SendTo, Side, Take};
 
 /// Whether a lock is as the rule needs it.
@@ -50,7 +49,7 @@ pub(crate) fn request_in_hand(
     ensures { result ≡ request_in_hand p.now take send local.now view.now heads.now }
 {
     match take {
-        Take::Me(_) => if_request(p, heads.me),
+        Take::Me(_) => if_request(p, heads.request),
         Take::Parent(_) => match if_request(p, heads.parent) {
             Some(request) => Some(request),
             None => view.kept,
@@ -65,7 +64,7 @@ fn lock_by(origin: Origin, view: &View) -> Option<By>
     ensures { result ≡ lock_by origin view.now }
 {
     match origin {
-        Origin::Child => view.me,
+        Origin::Child => view.requester,
         Origin::Parent => Some(By::Parent),
         Origin::Own => Some(By::Own),
     }

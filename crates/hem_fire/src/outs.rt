@@ -23,7 +23,7 @@ pub enum To {
 #[derive(Clone, Copy, Debug, PartialEq, Eq)]
 pub struct Outs {
     /// Whether the head of the requester's requests is taken.
-    pub taken_me: bool,
+    pub taken_request: bool,
     /// Whether the head of the parent's messages is taken.
     pub taken_parent: bool,
     /// The children of whose responses the head is taken.

@@ -13,9 +13,8 @@ use crate::locks::{lock_names, need_holds, request_in_hand};
 use crate::sends::send_names;
 use crate::view::view_of;
 use hem_base::{Kind, Message};
-use hem_object::Local;
+use hem_object::{Local, View};
 use hem_syntax::{Protocol, Rule, Take};
-use hem_object::View;
 
 /// Whether the child fits the rule: it is named exactly where the rule takes from a child.
 fn me_fits(kind: Kind, take: Take, me: Option<u8>, children: usize) -> bool

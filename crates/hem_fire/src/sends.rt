@@ -6,8 +6,7 @@ ghost use Rattle.hem_fire.specs.Sends.{message_of, has_parent, send_names, to_re
 
 use crate::outs::To;
 use hem_base::{Kind, Message, MsgId};
-use hem_object::Local;
-use hem_object::{By, View};
+use hem_object::{By, Local, View};
 use hem_syntax::{Class, Protocol, SendTo};
 
 /// The message with this id, where its value exists.
@@ -43,13 +42,13 @@ pub(crate) fn send_names(kind: Kind, send: SendTo, local: &Local, view: &View) -
 {
     match send {
         SendTo::Nothing => true,
-        SendTo::Me(_, value) => view.me.is_some() && local.value(value, view).is_some(),
+        SendTo::Me(_, value) => view.requester.is_some() && local.value(value, view).is_some(),
         SendTo::Parent(_, value) => has_parent(kind) && local.value(value, view).is_some(),
         SendTo::Kids(_, _, value) => {
             local.value(value, view).is_some() && local.targets(&send, view).0 != 0
         }
         SendTo::Others(_, _, value) => {
-            view.me.is_some()
+            view.requester.is_some()
                 && local.value(value, view).is_some()
                 && local.targets(&send, view).0 != 0
         }
@@ -73,7 +72,7 @@ pub(crate) fn goes_to(p: &Protocol, send: SendTo, local: &Local, view: &View) ->
 {
     match send {
         SendTo::Nothing => To::Nobody,
-        SendTo::Me(_, _) => to_requester(view.me),
+        SendTo::Me(_, _) => to_requester(view.requester),
         SendTo::Parent(id, _) => match p.class(id) {
             Some(Class::UpRsp) => To::UpResponse,
             _ => To::UpRequest,

@@ -7,8 +7,7 @@ ghost use Rattle.hem_syntax.specs.declared.rule.Take.TheVariants as taking;
 
 use crate::heads::{Heads, awaited_of, value_in};
 use hem_base::{KidSet, Message};
-use hem_object::Local;
-use hem_object::{By, Lock, View};
+use hem_object::{By, Local, Lock, View};
 use hem_syntax::Take;
 
 /// The request that a lock keeps, where it is held.
@@ -56,14 +55,14 @@ pub(crate) fn view_of(take: Take, me: Option<u8>, local: &Local, heads: &Heads) 
 {
     match take {
         Take::Me(_) => View {
-            me: Some(requester(me)),
-            msg: value_in(heads.me),
+            requester: Some(requester(me)),
+            msg: value_in(heads.request),
             rs: None,
             kept: None,
             awaited: KidSet(0),
         },
         Take::Parent(_) => View {
-            me: asker(local.up),
+            requester: asker(local.up),
             msg: value_in(heads.parent),
             rs: None,
             kept: request_of(local.up),
@@ -71,7 +70,7 @@ pub(crate) fn view_of(take: Take, me: Option<u8>, local: &Local, heads: &Heads) 
         },
         Take::Kids(_) => view_of_responses(local, heads),
         Take::Nothing => View {
-            me: None,
+            requester: None,
             msg: None,
             rs: None,
             kept: None,
@@ -86,7 +85,7 @@ fn view_of_responses(local: &Local, heads: &Heads) -> View
 {
     let awaited = awaited_of(local);
     View {
-        me: kid_asker(local.down),
+        requester: kid_asker(local.down),
         msg: None,
         rs: heads.first_response(awaited),
         kept: request_of(local.down),

@@ -9,9 +9,8 @@ ghost use Rattle.hem_history.specs.Grammar.{start, firsts, follows, stands, with
 
 use crate::limits::{MOST_FIRINGS, MOST_NUMBER};
 use hem_base::{Firing, LineId, List, ObjectId, OutOfMemory, Reserved, RuleId, word_bytes};
-use hem_text::{Place, Stands, Symbol, TokenKind, is_name};
 use hem_syntax::{Names, Protocol};
-use hem_text::{Language, is_at_most, value_of};
+use hem_text::{Language, Place, Stands, Symbol, TokenKind, is_at_most, is_name, value_of};
 use std::alloc::Global;
 use std::marker::Model;
 

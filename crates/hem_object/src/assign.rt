@@ -7,11 +7,11 @@ ghost use Rattle.hem_base.specs.Sets.{has_bit};
 ghost use Rattle.hem_object.specs.Changes.{assign_own, assign_targets, assign_me, assigned, set_at, in_turn, assign_names};
 ghost use Rattle.hem_object.specs.Local.{Local};
 
+use crate::View;
 use crate::guard::is_requester;
 use crate::local::Local;
 use hem_base::{KidSet, Status8};
 use hem_syntax::{Assign, Value};
-use crate::View;
 
 /// The number that a name stands for, or 0, with this value of the object.
 fn value_with(val: u64, value: Value, view: &View) -> u64

@@ -5,11 +5,11 @@ ghost use Rattle.hem_base.specs.Sets.{bits_where};
 ghost use Rattle.hem_object.specs.Guard.{has, is_requester};
 ghost use Rattle.hem_object.specs.Targets.{kid_is_in, targets_of};
 
+use crate::View;
 use crate::guard::is_requester;
 use crate::local::Local;
 use hem_base::{KidSet, Status8, StatusSet};
 use hem_syntax::SendTo;
-use crate::View;
 
 /// The set of children below a place, and with it the child at that place where it is wanted.
 fn with_kid(kids: u16, place: usize, wanted: bool) -> u16

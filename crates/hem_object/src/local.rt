@@ -5,9 +5,9 @@ ghost use Rattle.std.specs.Option.{option_map_or};
 ghost use Rattle.hem_object.specs.Changes.{freed, locked};
 ghost use Rattle.hem_object.specs.Start.{first_local};
 
+use crate::Lock;
 use arrayvec::ArrayVec;
 use hem_base::{Kind, Name, Status8};
-use crate::Lock;
 use hem_syntax::{Protocol, Side};
 use std::marker::Model;
 

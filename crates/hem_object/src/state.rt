@@ -30,7 +30,7 @@ pub struct Lock {
 #[derive(Clone, Copy, Debug, PartialEq, Eq)]
 pub struct View {
     /// The requester: a child or the processor.
-    pub me: Option<By>,
+    pub requester: Option<By>,
     /// The value of the message that is taken from the requester or the parent.
     pub msg: Option<u64>,
     /// The value of the response of the least awaited child.

@@ -60,7 +60,7 @@ reaches_at-is tree f (send.Kids set) at Answers stands = refl
 
 -- what a firing takes, seen from where an object stands
 takes_at-is : (tree : Tree) (f : Firing) (outs : Outs) (at : Stand) (lane : Lane) → Stands tree f.object.0 at → takes_at f outs at lane ≡ takes tree f outs at.object lane
-takes_at-is tree f outs at UpRequests stands = ap (λ (b : Bool). outs.taken_me && option_map_or (λ child. child.0 == at.object) f.me false && b) stands.child
+takes_at-is tree f outs at UpRequests stands = ap (λ (b : Bool). outs.taken_request && option_map_or (λ child. child.0 == at.object) f.me false && b) stands.child
 takes_at-is tree f outs at UpResponses stands = and_same at.is_child (is_child tree at.object f.object.0) (has_bit outs.taken_kids.0 at.place) (has_bit outs.taken_kids.0 (place_among tree f.object.0 at.object)) stands.child (λ child. ap (has_bit outs.taken_kids.0) (stands.place child))
 takes_at-is tree f outs at Down stands = refl
 takes_at-is tree f outs at Requests stands = refl

@@ -46,7 +46,7 @@ pub local_at-line_of : (cells : List Kept) (o : ℕ) (cell : Kept) → slice_get
 local_at-line_of cells o cell at = rw (slice_get-map seen cells o, at) refl
 
 -- the heads of an object's lists, of their parts
-pub heads-are : (tree : Tree) (line : Line) (o : ℕ) (me : Option ObjectId) (request parent : Option Message) (kids : List (Option Message)) → request ≡ request_head line o me → parent ≡ head_at line o Down → kids ≡ map (λ k. head_at line k UpResponses) (children_of tree o) → (let heads : Heads = record { me = request; parent = parent; kids = kids } in heads) ≡ heads_of tree line o me
+pub heads-are : (tree : Tree) (line : Line) (o : ℕ) (me : Option ObjectId) (request parent : Option Message) (kids : List (Option Message)) → request ≡ request_head line o me → parent ≡ head_at line o Down → kids ≡ map (λ k. head_at line k UpResponses) (children_of tree o) → (let heads : Heads = record { request = request; parent = parent; kids = kids } in heads) ≡ heads_of tree line o me
 heads-are tree line o me request parent kids request_is parent_is kids_is = rw (request_is, parent_is, kids_is) refl
 
 -- whether a firing is possible on a line that is kept

@@ -55,7 +55,7 @@ some_heads set k (x ∷ xs) (y ∷ ys) same =
 
 -- heads that agree where a firing takes are the same to it
 alike_by : (p : Protocol) (kind : Kind) (rule : Rule) (me : Option ℕ) (local : Local) (a b : Heads) (t : Take) → rule.take ≡ t → taken_heads (outs_of p kind rule me local a) b ≡ taken_heads (outs_of p kind rule me local a) a → Alike t local a b
-alike_by p kind rule me local a b (take.Me id) is same = rw is at (ap (λ (h : Heads). h.me) same)
+alike_by p kind rule me local a b (take.Me id) is same = rw is at (ap (λ (h : Heads). h.request) same)
 alike_by p kind rule me local a b (take.Parent id) is same = rw is at (ap (λ (h : Heads). h.parent) same)
 alike_by p kind rule me local a b (take.Kids id) is same =
     let awaited : (view_of rule.take me local a).awaited ≡ awaited_of local = ap (λ (t : Take). (view_of t me local a).awaited) is in

@@ -21,10 +21,10 @@ pub record Stands (tree : Tree) (o : ℕ) (at : Stand) : Type 0 where
 
 -- whether a firing takes the head of a list of the object that stands so
 abbrev pub takes_at : Firing → Outs → Stand → Lane → Bool
-takes_at f outs at UpRequests = outs.taken_me && option_map_or (λ child. child.0 == at.object) f.me false && at.is_child
+takes_at f outs at UpRequests = outs.taken_request && option_map_or (λ child. child.0 == at.object) f.me false && at.is_child
 takes_at f outs at UpResponses = at.is_child && has_bit outs.taken_kids.0 at.place
 takes_at f outs at Down = outs.taken_parent && at.object == f.object.0
-takes_at f outs at Requests = outs.taken_me && is_none f.me && at.object == f.object.0
+takes_at f outs at Requests = outs.taken_request && is_none f.me && at.object == f.object.0
 takes_at f outs at Answers = false
 
 -- whether a firing sends to a list of the object that stands so

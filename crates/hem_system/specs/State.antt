@@ -70,7 +70,7 @@ request_head line o (Some child) = head_at line child.0 UpRequests
 abbrev pub heads_of : Tree → Line → ℕ → Option ObjectId → Heads
 heads_of tree line o me =
     record {
-      me = request_head line o me;
+      request = request_head line o me;
       parent = head_at line o Down;
       kids = map (λ k. head_at line k UpResponses) (children_of tree o);
     }
@@ -85,7 +85,7 @@ pub record Effect : Type 0 where
 abbrev pub taken_heads : Outs → Heads → Heads
 taken_heads outs heads =
     record {
-      me = cond outs.taken_me heads.me None;
+      request = cond outs.taken_request heads.request None;
       parent = cond outs.taken_parent heads.parent None;
       kids = map_each (λ k head. cond (has_bit outs.taken_kids.0 k) head None) 0 heads.kids;
     }
@@ -146,10 +146,10 @@ sender_of tree k Answers = Some k
 
 -- whether a firing takes the head of a list
 abbrev pub takes : Tree → Firing → Outs → ℕ → Lane → Bool
-takes tree f outs k UpRequests = outs.taken_me && option_map_or (λ child. child.0 == k) f.me false && is_child tree k f.object.0
+takes tree f outs k UpRequests = outs.taken_request && option_map_or (λ child. child.0 == k) f.me false && is_child tree k f.object.0
 takes tree f outs k UpResponses = is_child tree k f.object.0 && has_bit outs.taken_kids.0 (place_among tree f.object.0 k)
 takes tree f outs k Down = outs.taken_parent && k == f.object.0
-takes tree f outs k Requests = outs.taken_me && is_none f.me && k == f.object.0
+takes tree f outs k Requests = outs.taken_request && is_none f.me && k == f.object.0
 takes tree f outs k Answers = false
 
 -- whether a firing sends to a list

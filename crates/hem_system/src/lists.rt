@@ -58,10 +58,10 @@ fn takes(firing: Firing, outs: Outs, at: Stand, lane: Lane) -> bool
 {
     let fires = at.object == firing.object.0 as usize;
     match lane {
-        Lane::UpRequests => outs.taken_me && names(firing, at.object) && at.is_child,
+        Lane::UpRequests => outs.taken_request && names(firing, at.object) && at.is_child,
         Lane::UpResponses => at.is_child && outs.taken_kids.has(at.place),
         Lane::Down => outs.taken_parent && fires,
-        Lane::Requests => outs.taken_me && firing.me.is_none() && fires,
+        Lane::Requests => outs.taken_request && firing.me.is_none() && fires,
         Lane::Answers => false,
     }
 }

@@ -78,7 +78,7 @@ pub(crate) fn heads_of(tree: &Tree, cells: &[Cell], object: ObjectId, me: Option
 {
     let kids = response_heads(cells, children_of(tree, object));
     Heads {
-        me: request_head(cells, object, me),
+        request: request_head(cells, object, me),
         parent: head_at(cells, object, Lane::Down),
         kids,
     }

@@ -7,7 +7,8 @@ use Rattle.hem_syntax.specs.declared.rule.Assign.{Assign}
 use Rattle.hem_syntax.specs.declared.rule.Assign.TheVariants as assign
 use Rattle.hem_syntax.specs.declared.rule.Rule.{Rule}
 use Rattle.hem_syntax.specs.declared.rule.Value.{Value}
-use Rattle.hem_template.specs.Template.{Row, value_fits, value_sent, values_of}
+use Rattle.hem_template.specs.Template.{value_fits, value_sent, values_of}
+use Rattle.hem_template.specs.declared.row.Row.{Row}
 use Rattle.hem_template.specs.Rows.{set_value_fits}
 
 and_nested : (a b c : Bool) → (a && (b && c)) ≡ ((a && b) && c)

@@ -9,8 +9,8 @@ use crate::names::names_fit;
 use crate::row::row_of;
 use crate::scope::{locks_fit, scope_fits, silent_fits};
 use crate::shape::shape_of;
-use hem_base::Kind;
 use crate::{Clause, TemplateName};
+use hem_base::Kind;
 use hem_syntax::{Protocol, Rule};
 
 /// The template whose shape the rule has, or the first of the clauses that are left that the rule fails.

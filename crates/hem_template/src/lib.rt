@@ -13,4 +13,5 @@ mod template_name;
 
 pub use clause::Clause;
 pub use fitting::template;
+pub use row::{Row, Sending, Taking, row_of};
 pub use template_name::TemplateName;

@@ -3,8 +3,8 @@
 ghost use Rattle.std.specs.Prelude.{◌≡◌, true};
 ghost use Rattle.std.specs.List.{list_all};
 ghost use Rattle.std.specs.Option.{option_map_or};
-ghost use Rattle.hem_template.specs.Template.{value_sent, values_of, has_me, has_kept, has_msg, has_rs, is_leaf, atom_fits, value_fits, set_fits, names_fit};
-ghost use Rattle.hem_template.specs.Rows.{taking_meant, set_value_fits};
+ghost use Rattle.hem_template.specs.Template.{value_sent, values_of, may_name_requester, has_kept, has_msg, has_rs, is_leaf, atom_fits, value_fits, set_fits, names_fit};
+ghost use Rattle.hem_template.specs.Rows.{set_value_fits};
 
 use crate::class::is_request_id;
 use crate::row::{Row, Taking};
@@ -26,36 +26,36 @@ fn value_sent(send: SendTo) -> Option<Value>
 }
 
 /// Whether a rule of this row may name its requester.
-fn has_me(row: &Row) -> bool
-    ensures { result ≡ has_me row.now }
+fn may_name_requester(row: &Row) -> bool
+    ensures { result ≡ may_name_requester row }
 {
-    matches!(row.taking, Taking::Me)
+    matches!(row.taking, Taking::FromRequester)
         || same_hold(row.up, Hold::Child)
         || same_hold(row.down, Hold::Child)
 }
 
 /// Whether a rule with this take has the request that a lock keeps.
 fn has_kept(taking: Taking) -> bool
-    ensures { result ≡ has_kept (taking_meant taking) }
+    ensures { result ≡ has_kept taking }
 {
-    matches!(taking, Taking::ParentResponse | Taking::Kids)
+    matches!(taking, Taking::ParentResponse | Taking::FromKids)
 }
 
 /// Whether a rule with this take has the value of one message.
 fn has_msg(taking: Taking) -> bool
-    ensures { result ≡ has_msg (taking_meant taking) }
+    ensures { result ≡ has_msg taking }
 {
     matches!(
         taking,
-        Taking::Me | Taking::ParentRequest | Taking::ParentResponse
+        Taking::FromRequester | Taking::ParentRequest | Taking::ParentResponse
     )
 }
 
 /// Whether a rule with this take has the children's responses.
 fn has_rs(taking: Taking) -> bool
-    ensures { result ≡ has_rs (taking_meant taking) }
+    ensures { result ≡ has_rs taking }
 {
-    matches!(taking, Taking::Kids)
+    matches!(taking, Taking::FromKids)
 }
 
 /// Whether a kind is that of the leaves.
@@ -67,19 +67,20 @@ fn is_leaf(kind: Kind) -> bool
 
 /// Whether the names of a condition may stand in a rule of this row.
 fn atom_fits(p: &Protocol, kind: Kind, row: &Row, atom: Atom) -> bool
-    ensures { result ≡ atom_fits p.now kind row.now atom }
+    ensures { result ≡ atom_fits p.now kind row atom }
 {
     match atom {
         Atom::Field(_, _) => true,
         Atom::KidsAll(_) | Atom::KidsAny(_) => !is_leaf(kind),
         Atom::Asked(id) => has_kept(row.taking) && is_request_id(p, id),
-        Atom::Me(_) | Atom::OthersAll(_) | Atom::OthersAny(_) => has_me(row) && !is_leaf(kind),
+        Atom::Me(_) | Atom::OthersAll(_) | Atom::OthersAny(_) => may_name_requester(row)
+            && !is_leaf(kind),
     }
 }
 
 /// Whether a value may stand in a rule of this row.
 fn value_fits(row: &Row, value: Value) -> bool
-    ensures { result ≡ value_fits row.now value }
+    ensures { result ≡ value_fits row value }
 {
     match value {
         Value::Val | Value::Zero => true,
@@ -91,10 +92,10 @@ fn value_fits(row: &Row, value: Value) -> bool
 
 /// Whether the place of a set may stand in a rule of this row.
 fn set_fits(kind: Kind, row: &Row, set: Assign) -> bool
-    ensures { result ≡ set_fits kind row.now set }
+    ensures { result ≡ set_fits kind row set }
 {
     match set {
-        Assign::Me(_) => has_me(row) && !is_leaf(kind),
+        Assign::Me(_) => may_name_requester(row) && !is_leaf(kind),
         Assign::Targets(_) => has_rs(row.taking),
         Assign::Field(_, _) | Assign::Val(_) => true,
     }
@@ -102,21 +103,21 @@ fn set_fits(kind: Kind, row: &Row, set: Assign) -> bool
 
 /// Whether the names of each condition may stand in a rule of this row.
 fn guard_fits(p: &Protocol, kind: Kind, row: &Row, guard: &[Atom]) -> bool
-    ensures { result ≡ list_all (atom_fits p.now kind row.now) guard.now }
+    ensures { result ≡ list_all (atom_fits p.now kind row) guard.now }
 {
     guard.iter().all(|atom| atom_fits(p, kind, row, *atom))
 }
 
 /// Whether the place of each set may stand in a rule of this row.
 fn places_fit(kind: Kind, row: &Row, sets: &[Assign]) -> bool
-    ensures { result ≡ list_all (set_fits kind row.now) sets.now }
+    ensures { result ≡ list_all (set_fits kind row) sets.now }
 {
     sets.iter().all(|set| set_fits(kind, row, *set))
 }
 
 /// Whether the value that is set, if one is, may stand in a rule of this row.
 fn set_value_fits(row: &Row, set: Assign) -> bool
-    ensures { result ≡ set_value_fits row.now set }
+    ensures { result ≡ set_value_fits row set }
 {
     match set {
         Assign::Val(value) => value_fits(row, value),
@@ -126,14 +127,14 @@ fn set_value_fits(row: &Row, set: Assign) -> bool
 
 /// Whether each value that is set may stand in a rule of this row.
 fn set_values_fit(row: &Row, sets: &[Assign]) -> bool
-    ensures { result ≡ list_all (set_value_fits row.now) sets.now }
+    ensures { result ≡ list_all (set_value_fits row) sets.now }
 {
     sets.iter().all(|set| set_value_fits(row, *set))
 }
 
 /// Whether the value that is sent, if one is, may stand in a rule of this row.
 fn sent_value_fits(row: &Row, send: SendTo) -> bool
-    ensures { result ≡ option_map_or (value_fits row.now) (value_sent send) true }
+    ensures { result ≡ option_map_or (value_fits row) (value_sent send) true }
 {
     match value_sent(send) {
         Some(value) => value_fits(row, value),
@@ -143,14 +144,14 @@ fn sent_value_fits(row: &Row, send: SendTo) -> bool
 
 /// Whether each value that a rule sets or sends may stand in a rule of this row.
 fn values_fit(rule: &Rule, row: &Row) -> bool
-    ensures { result ≡ list_all (value_fits row.now) (values_of rule.now) }
+    ensures { result ≡ list_all (value_fits row) (values_of rule.now) }
 {
     set_values_fit(row, rule.sets.as_slice()) && sent_value_fits(row, rule.send)
 }
 
 /// Whether each name stands where it may.
 pub(crate) fn names_fit(p: &Protocol, kind: Kind, rule: &Rule, row: &Row) -> bool
-    ensures { result ≡ names_fit p.now kind rule.now row.now }
+    ensures { result ≡ names_fit p.now kind rule.now row }
 {
     guard_fits(p, kind, row, rule.guard.as_slice())
         && places_fit(kind, row, rule.sets.as_slice())

@@ -4,53 +4,49 @@ ghost use Rattle.std.specs.Prelude.{◌≡◌};
 ghost use Rattle.std.specs.Prelude.{true, false, None, Some};
 ghost use Rattle.hem_syntax.specs.declared.rule.Hold.TheVariants.{Any, Free};
 ghost use Rattle.hem_syntax.specs.declared.rule.Side.TheVariants.{Up, Down};
-ghost use Rattle.hem_template.specs.Template.{row_of, parent_response, from_kids};
-ghost use Rattle.hem_template.specs.Rows.{taking_meant, sending_meant};
+ghost use Rattle.hem_template.specs.Template.{row_of};
+ghost use Rattle.hem_template.specs.declared.row.Taking.TheVariants.{ParentResponse, FromKids};
 
-use hem_syntax::{Hold, Origin, Side};
 use crate::TemplateName;
-use std::marker::Model;
+use hem_syntax::{Hold, Origin, Side};
 
 /// What a template takes.
 #[derive(Clone, Copy, Debug, PartialEq, Eq)]
-pub(crate) enum Taking {
-    Nothing,
-    Me,
+pub enum Taking {
+    NothingTaken,
+    /// A request of the child for which the rule works, on a leaf of the processor.
+    FromRequester,
     ParentRequest,
     ParentResponse,
-    Kids,
+    /// The response of every awaited child.
+    FromKids,
 }
 
 /// What a template sends.
 #[derive(Clone, Copy, Debug, PartialEq, Eq)]
-pub(crate) enum Sending {
-    Nothing,
-    Me,
+pub enum Sending {
+    NothingSent,
+    /// An answer to the child for which the rule works, on a leaf to the processor.
+    ToRequester,
     RequestUp,
     ResponseUp,
-    Others,
-    Kids,
+    /// A request to children, but not to the one for which the rule works.
+    ToOthers,
+    /// A request to children.
+    ToKids,
 }
 
-/// A row of the table: what a rule of the template takes, needs, frees, locks and sends, and whether it may set.
-#[derive(Debug, Drop)]
-pub(crate) struct Row {
-    pub(crate) taking: Taking,
-    pub(crate) up: Hold,
-    pub(crate) down: Hold,
-    pub(crate) may_set: bool,
-    pub(crate) frees: Option<Side>,
-    pub(crate) locks: Option<(Side, Origin)>,
-    pub(crate) sending: Sending,
-}
-
-impl Model for Row {
-    ghost use Rattle.hem_template.specs.Template.{Row as Described};
-    ghost use Rattle.hem_template.specs.Rows.{taking_meant, sending_meant};
-
-    ghost Value = { Described };
-
-    ghost view = { λ r. record { taking = taking_meant r.taking; up = r.up; down = r.down; may_set = r.may_set; frees = r.frees; locks = r.locks; sending = sending_meant r.sending } };
+/// A row of the table of templates: what a rule of the template takes, needs, frees, locks and sends, and whether it may set.
+#[derive(Clone, Copy, Debug, PartialEq, Eq)]
+pub struct Row {
+    pub taking: Taking,
+    pub up: Hold,
+    pub down: Hold,
+    pub may_set: bool,
+    pub frees: Option<Side>,
+    /// The lock that is taken, and for whom.
+    pub locks: Option<(Side, Origin)>,
+    pub sending: Sending,
 }
 
 /// All templates, in the order of the table.
@@ -88,7 +84,7 @@ const DOWN_FOR_OWN: (Side, Origin) = (Side::Down, Origin::Own);
 
 /// The row of a template whose rules neither free nor lock.
 fn immediate(taking: Taking, up: Hold, sending: Sending) -> Row
-    ensures { result ≡ record { taking = taking_meant taking; up = up; down = Free; may_set = true; frees = None; locks = None; sending = sending_meant sending } }
+    ensures { result ≡ record { taking = taking; up = up; down = Free; may_set = true; frees = None; locks = None; sending = sending } }
 {
     Row {
         taking,
@@ -103,7 +99,7 @@ fn immediate(taking: Taking, up: Hold, sending: Sending) -> Row
 
 /// The row of a template whose rules ask and lock.
 fn asking(taking: Taking, up: Hold, lock: (Side, Origin), sending: Sending) -> Row
-    ensures { result ≡ record { taking = taking_meant taking; up = up; down = Free; may_set = false; frees = None; locks = Some lock; sending = sending_meant sending } }
+    ensures { result ≡ record { taking = taking; up = up; down = Free; may_set = false; frees = None; locks = Some lock; sending = sending } }
 {
     Row {
         taking,
@@ -118,7 +114,7 @@ fn asking(taking: Taking, up: Hold, lock: (Side, Origin), sending: Sending) -> R
 
 /// The row of a template whose rules take the parent's response and free the uplock.
 fn answered_above(up: Hold, locks: Option<(Side, Origin)>, sending: Sending) -> Row
-    ensures { result ≡ record { taking = parent_response; up = up; down = Free; may_set = true; frees = Some Up; locks = locks; sending = sending_meant sending } }
+    ensures { result ≡ record { taking = ParentResponse; up = up; down = Free; may_set = true; frees = Some Up; locks = locks; sending = sending } }
 {
     Row {
         taking: Taking::ParentResponse,
@@ -133,10 +129,10 @@ fn answered_above(up: Hold, locks: Option<(Side, Origin)>, sending: Sending) -> 
 
 /// The row of a template whose rules take the children's responses and free the downlock.
 fn answered_below(down: Hold, sending: Sending) -> Row
-    ensures { result ≡ record { taking = from_kids; up = Any; down = down; may_set = true; frees = Some Down; locks = None; sending = sending_meant sending } }
+    ensures { result ≡ record { taking = FromKids; up = Any; down = down; may_set = true; frees = Some Down; locks = None; sending = sending } }
 {
     Row {
-        taking: Taking::Kids,
+        taking: Taking::FromKids,
         up: Hold::Any,
         down,
         may_set: true,
@@ -147,42 +143,52 @@ fn answered_below(down: Hold, sending: Sending) -> Row
 }
 
 /// The row of a template.
-pub(crate) fn row_of(name: TemplateName) -> Row
+pub fn row_of(name: TemplateName) -> Row
     ensures { result ≡ row_of name }
 {
     match name {
-        TemplateName::ImmSelf => immediate(Taking::Nothing, Hold::Free, Sending::Nothing),
-        TemplateName::ImmDown => immediate(Taking::Me, Hold::Free, Sending::Me),
+        TemplateName::ImmSelf => immediate(Taking::NothingTaken, Hold::Free, Sending::NothingSent),
+        TemplateName::ImmDown => immediate(Taking::FromRequester, Hold::Free, Sending::ToRequester),
         TemplateName::ImmUp => immediate(Taking::ParentRequest, Hold::Any, Sending::ResponseUp),
-        TemplateName::RqUp => asking(Taking::Me, Hold::Free, UP_FOR_CHILD, Sending::RequestUp),
+        TemplateName::RqUp => asking(
+            Taking::FromRequester,
+            Hold::Free,
+            UP_FOR_CHILD,
+            Sending::RequestUp,
+        ),
         TemplateName::RqUpSelf => asking(
-            Taking::Nothing,
+            Taking::NothingTaken,
             Hold::Free,
             UP_FOR_OWN,
             Sending::RequestUp,
         ),
-        TemplateName::RqUpDown => asking(Taking::Me, Hold::Free, DOWN_FOR_CHILD, Sending::Others),
+        TemplateName::RqUpDown => asking(
+            Taking::FromRequester,
+            Hold::Free,
+            DOWN_FOR_CHILD,
+            Sending::ToOthers,
+        ),
         TemplateName::RqDownSelf => asking(
-            Taking::Nothing,
+            Taking::NothingTaken,
             Hold::Free,
             DOWN_FOR_OWN,
-            Sending::Kids,
+            Sending::ToKids,
         ),
         TemplateName::RqDownDown => asking(
             Taking::ParentRequest,
             Hold::Any,
             DOWN_FOR_PARENT,
-            Sending::Kids,
+            Sending::ToKids,
         ),
-        TemplateName::RsDown => answered_above(Hold::Child, None, Sending::Me),
-        TemplateName::RsDownSelf => answered_above(Hold::Own, None, Sending::Nothing),
+        TemplateName::RsDown => answered_above(Hold::Child, None, Sending::ToRequester),
+        TemplateName::RsDownSelf => answered_above(Hold::Own, None, Sending::NothingSent),
         TemplateName::RsDownRqDown => answered_above(
             Hold::Child,
             Some(DOWN_FOR_CHILD),
-            Sending::Others,
+            Sending::ToOthers,
         ),
-        TemplateName::RsUpDown => answered_below(Hold::Child, Sending::Me),
+        TemplateName::RsUpDown => answered_below(Hold::Child, Sending::ToRequester),
         TemplateName::RsUpUp => answered_below(Hold::Parent, Sending::ResponseUp),
-        TemplateName::RsUpSelf => answered_below(Hold::Own, Sending::Nothing),
+        TemplateName::RsUpSelf => answered_below(Hold::Own, Sending::NothingSent),
     }
 }

@@ -4,9 +4,9 @@ ghost use Rattle.std.specs.Prelude.{◌≡◌};
 ghost use Rattle.std.specs.List.{list_any};
 ghost use Rattle.hem_template.specs.Template.{same_hold, locks_fit, silent_fits, reads_me, guard_sees_me, scope_fits};
 
+use crate::TemplateName;
 use crate::row::Row;
 use hem_syntax::{Atom, Hold, Rule};
-use crate::TemplateName;
 
 /// Whether two needs are the same.
 pub(crate) fn same_hold(a: Hold, b: Hold) -> bool
@@ -24,14 +24,14 @@ pub(crate) fn same_hold(a: Hold, b: Hold) -> bool
 
 /// Whether the rule needs the locks as its template does.
 pub(crate) fn locks_fit(rule: &Rule, row: &Row) -> bool
-    ensures { result ≡ locks_fit rule.now row.now }
+    ensures { result ≡ locks_fit rule.now row }
 {
     same_hold(rule.need.up, row.up) && same_hold(rule.need.down, row.down)
 }
 
 /// Whether a rule whose template sets nothing sets nothing.
 pub(crate) fn silent_fits(rule: &Rule, row: &Row) -> bool
-    ensures { result ≡ silent_fits rule.now row.now }
+    ensures { result ≡ silent_fits rule.now row }
 {
     row.may_set || rule.sets.len() == 0
 }

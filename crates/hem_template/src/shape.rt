@@ -3,21 +3,20 @@
 ghost use Rattle.std.specs.Prelude.{◌≡◌, ◌&&◌, find};
 ghost use Rattle.std.specs.Option.{option_eq};
 ghost use Rattle.hem_template.specs.Template.{is_taking, is_sending, same_side, same_origin, has_shape, shape_of};
-ghost use Rattle.hem_template.specs.Rows.{taking_meant, sending_meant};
 
+use crate::TemplateName;
 use crate::class::{is_down_req, is_down_rsp, is_up_req, is_up_rsp};
 use crate::row::{Row, Sending, TEMPLATES, Taking, row_of};
 use hem_syntax::{Origin, Protocol, Rule, SendTo, Side, Take};
-use crate::TemplateName;
 
 /// Whether what a rule takes is what the row takes.
 fn is_taking(p: &Protocol, take: Take, taking: Taking) -> bool
-    ensures { result ≡ is_taking p.now take (taking_meant taking) }
+    ensures { result ≡ is_taking p.now take taking }
 {
     match (take, taking) {
-        (Take::Nothing, Taking::Nothing)
-        | (Take::Me(_), Taking::Me)
-        | (Take::Kids(_), Taking::Kids) => true,
+        (Take::Nothing, Taking::NothingTaken)
+        | (Take::Me(_), Taking::FromRequester)
+        | (Take::Kids(_), Taking::FromKids) => true,
         (Take::Parent(id), Taking::ParentRequest) => is_down_req(p, id),
         (Take::Parent(id), Taking::ParentResponse) => is_down_rsp(p, id),
         _ => false,
@@ -26,13 +25,13 @@ fn is_taking(p: &Protocol, take: Take, taking: Taking) -> bool
 
 /// Whether what a rule sends is what the row sends.
 fn is_sending(p: &Protocol, send: SendTo, sending: Sending) -> bool
-    ensures { result ≡ is_sending p.now send (sending_meant sending) }
+    ensures { result ≡ is_sending p.now send sending }
 {
     match (send, sending) {
-        (SendTo::Nothing, Sending::Nothing)
-        | (SendTo::Me(_, _), Sending::Me)
-        | (SendTo::Others(_, _, _), Sending::Others)
-        | (SendTo::Kids(_, _, _), Sending::Kids) => true,
+        (SendTo::Nothing, Sending::NothingSent)
+        | (SendTo::Me(_, _), Sending::ToRequester)
+        | (SendTo::Others(_, _, _), Sending::ToOthers)
+        | (SendTo::Kids(_, _, _), Sending::ToKids) => true,
         (SendTo::Parent(id, _), Sending::RequestUp) => is_up_req(p, id),
         (SendTo::Parent(id, _), Sending::ResponseUp) => is_up_rsp(p, id),
         _ => false,
@@ -82,7 +81,7 @@ fn locks_alike(a: Option<(Side, Origin)>, b: Option<(Side, Origin)>) -> bool
 
 /// Whether a rule takes, locks and sends as a row does.
 fn has_shape(p: &Protocol, rule: &Rule, row: &Row) -> bool
-    ensures { result ≡ has_shape p.now rule.now row.now }
+    ensures { result ≡ has_shape p.now rule.now row }
 {
     is_taking(p, rule.take, row.taking)
         && frees_alike(rule.free, row.frees)

@@ -18,7 +18,8 @@ use Rattle.hem_template.specs.declared.clause.Clause.{Clause}
 use Rattle.hem_template.specs.declared.clause.Clause.TheVariants as clause
 use Rattle.hem_syntax.specs.Protocol.{Protocol, rule_named}
 use Rattle.hem_object.specs.Local.{Local, nobody}
-use Rattle.hem_template.specs.Template.{from_me, is_taking, row_of, templates, has_shape, shape_of, level_fits, class_fits, locks_fit, silent_fits, scope_fits, names_fit, fitted, template_of}
+use Rattle.hem_template.specs.Template.{is_taking, row_of, templates, has_shape, shape_of, level_fits, class_fits, locks_fit, silent_fits, scope_fits, names_fit, fitted, template_of}
+use Rattle.hem_template.specs.declared.row.Taking.TheVariants.{FromRequester}
 use Rattle.hem_fire.specs.OneFire.{Heads, can_fire, outs_of}
 use Rattle.hem_tree.specs.Tree.{Tree, kind_of, children_of, place_among}
 use Rattle.hem_system.specs.State.{State, Effect, Step, LineStep, heads_of, is_own_child, place_of_me, rule_effect, own_effect, local_at, effect_of, line_after, line_step_of, step_of, fire, run}
@@ -109,7 +110,7 @@ template-shape p kind rule name is =
     let class = unless-failed (class_fits p kind rule) clause.Class _ name level in
     by-shape p kind rule name (shape_of p rule) class
 
-takes-me : (p : Protocol) (what : Take) → IsTrue (is_taking p what from_me) → (id : MsgId) × (what ≡ take.Me id)
+takes-me : (p : Protocol) (what : Take) → IsTrue (is_taking p what FromRequester) → (id : MsgId) × (what ≡ take.Me id)
 takes-me p (take.Me id) is = (id, refl)
 takes-me p _ is = cc
 
@@ -164,7 +165,7 @@ leaf-alone : (p : Protocol) (tree : Tree) (o : ℕ) (rule : Rule) (me : Option O
 leaf-alone p tree o rule me local heads can = no_place tree o me (first-of_eight _ _ _ _ _ _ _ _ can)
 
 -- what takes a request alone takes from no channel
-no_channels : (tree : Tree) (e : Event) → e.firing.me ≡ None → e.outs.taken_me ≡ true → e.outs.taken_parent ≡ false → e.outs.taken_kids ≡ nobody → channels_taken tree e ≡ []
+no_channels : (tree : Tree) (e : Event) → e.firing.me ≡ None → e.outs.taken_request ≡ true → e.outs.taken_parent ≡ false → e.outs.taken_kids ≡ nobody → channels_taken tree e ≡ []
 no_channels tree e me request parent kids =
     let none = filter-none (λ k. has_bit e.outs.taken_kids.0 (place_among tree e.firing.object.0 k)) (children_of tree e.firing.object.0) (λ k. rw kids (no_bit (place_among tree e.firing.object.0 k))) in
     rw (me, request, parent, none) refl

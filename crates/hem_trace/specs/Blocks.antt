@@ -20,7 +20,7 @@ pub record Block : Type 0 where
 -- the event takes messages, no processor's request, and only what was sent by the block that begins at place first: a message carries the place at which its sender's block begins
 pub record TakesWithin (tree : Tree) (tags : Tags) (first : ℕ) (e : Event) : Type 0 where
   pub some : channels_taken tree e ≢ []
-  pub no_request : (e.outs.taken_me && is_none e.firing.me) ≡ false
+  pub no_request : (e.outs.taken_request && is_none e.firing.me) ≡ false
   pub inside : Each (λ c. slice_get (tags c) 0 ≡ Some first) (channels_taken tree e)
 
 -- the numbers that the messages carry after events of one block

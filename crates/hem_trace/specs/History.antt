@@ -51,10 +51,10 @@ takes_from tree c e = e.firing.line.0 == c.line && takes tree e.firing e.outs c.
 
 -- the head of a list as an event took it
 abbrev pub head_seen : Tree → Event → ℕ → Lane → Option Message
-head_seen tree e k UpRequests = e.took.me
+head_seen tree e k UpRequests = e.took.request
 head_seen tree e k UpResponses = option_and_then (λ head. head) (slice_get e.took.kids (place_among tree e.firing.object.0 k))
 head_seen tree e k Down = e.took.parent
-head_seen tree e k Requests = e.took.me
+head_seen tree e k Requests = e.took.request
 head_seen tree e k Answers = None
 
 -- the messages that an event takes from a channel
@@ -74,7 +74,7 @@ abbrev pub channels_taken : Tree → Event → List Channel
 channels_taken tree e =
     let l = e.firing.line.0 in
     let o = e.firing.object.0 in
-    map (λ child. record { line = l; object = child.0; lane = UpRequests }) (cond e.outs.taken_me (option_to_list e.firing.me) [])
+    map (λ child. record { line = l; object = child.0; lane = UpRequests }) (cond e.outs.taken_request (option_to_list e.firing.me) [])
     ++ cond e.outs.taken_parent (record { line = l; object = o; lane = Down } ∷ []) []
     ++ map (λ k. record { line = l; object = k; lane = UpResponses })
     (filter (λ k. has_bit e.outs.taken_kids.0 (place_among tree o k)) (children_of tree o))

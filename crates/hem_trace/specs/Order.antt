@@ -67,11 +67,14 @@ anchor_of es number = option_map_or (λ e. e.place) (highest (entries_in number 
 abbrev pub is_moved : List Entry → Entry → Bool
 is_moved es e = e.upward && nat_lt e.place (anchor_of es e.number)
 
--- what stands in an entry's place in the normal order: nothing where it is moved, and at an anchor the moved ones of its transaction and then itself
+-- what is moved to an entry: to an anchor the moved entries of its transaction, to any other nothing
+abbrev pub moved_to : List Entry → Entry → List Entry
+moved_to es e = cond (e.place == anchor_of es e.number) (filter (is_moved es) (entries_in e.number es)) []
+
+-- what stands in an entry's place in the normal order: nothing where it is moved, and else itself behind what is moved to it
 abbrev pub with_moved : List Entry → Entry → List Entry
 with_moved es e =
-    cond (is_moved es e) []
-    (cond (e.place == anchor_of es e.number) (filter (is_moved es) (entries_in e.number es)) [] ++ e ∷ [])
+    cond (is_moved es e) [] (moved_to es e ++ e ∷ [])
 
 -- the normal order: each upward request that stands before its transaction's anchor is moved to just before the anchor
 abbrev pub normal : List Entry → List Entry
@@ -99,7 +102,7 @@ next_out es left = find (λ u. not (list_any (λ t. is_before es t u) left)) lef
 abbrev pub block_of : List Entry → ℕ → Block
 block_of es number = record { number = number; firings = map (λ e. e.event.firing) (entries_in number es) }
 
--- the printed order of the transactions that aren't out, at most so many blocks: at each turn the one of least number that none of the others precedes
+-- the printed order of the transactions that aren't out: at each turn the one of least number that none of the others precedes; it counts down as many turns as there are transactions, so that it ends
 abbrev pub printed_from : ℕ → List Entry → List ℕ → List Block
 printed_from zero es left = []
 printed_from (suc n) es left =

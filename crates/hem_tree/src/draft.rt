@@ -5,8 +5,7 @@ ghost use Rattle.hem_tree.specs.Grammar.{start, is_word, is_sign, word_of, gramm
 
 use crate::raw::RawNode;
 use hem_base::{Kind, List, OutOfMemory};
-use hem_text::{Place, Stands, Symbol, TokenKind};
-use hem_text::Language;
+use hem_text::{Language, Place, Stands, Symbol, TokenKind};
 use std::alloc::Global;
 
 /// A token of a tree, by what it means.

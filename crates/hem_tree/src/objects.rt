@@ -9,8 +9,8 @@ ghost use Rattle.hem_tree.specs.Objects.{number_of, number_at, elders_in, ArePar
 use crate::limits::{MOST_CHILDREN, MOST_LEVELS, MOST_OBJECTS};
 use crate::raw::RawNode;
 use crate::setup::SetupError;
+use crate::{SetupCause, SetupFault};
 use hem_base::{Kind, List, ObjectId, OutOfMemory};
-use crate::{SetupFault, SetupCause};
 use std::alloc::Global;
 
 /// An object of a tree, with what the queries answer.

@@ -10,8 +10,7 @@ ghost use Rattle.hem_tree.specs.Reading.{ReadsTree};
 
 use crate::draft::{nothing, start};
 use hem_base::{Kind, List};
-use hem_text::Place;
-use hem_text::{Cursor, Stack, TextError, read};
+use hem_text::{Cursor, Place, Stack, TextError, read};
 use std::alloc::Global;
 use std::marker::Model;
 

@@ -8,9 +8,8 @@ ghost use Rattle.hem_work.specs.Grammar.{start, firsts, follows, stands, id_of, 
 
 use crate::raw::RawEntry;
 use hem_base::{List, Message, MsgId, OutOfMemory, Reserved, word_bytes};
-use hem_text::{Place, Stands, Symbol, TokenKind, is_name};
 use hem_syntax::{Class, Named, Protocol};
-use hem_text::{Language, is_at_most, value_of};
+use hem_text::{Language, Place, Stands, Symbol, TokenKind, is_at_most, is_name, value_of};
 use std::alloc::Global;
 use std::marker::Model;
 

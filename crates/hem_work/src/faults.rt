@@ -7,10 +7,9 @@ ghost use Rattle.hem_work.specs.Setup.{fault_if, fault_in, is_leaf, is_leaf_kind
 use crate::limits::{MOST_LINES, MOST_REQUESTS, MOST_SELF, MOST_STARTS};
 use crate::raw::{RawEntry, RawWork};
 use hem_base::{Kind, Message, MsgId, ObjectId};
-use hem_text::Place;
-use hem_tree::{SetupFault, SetupCause};
 use hem_syntax::{Class, Protocol};
-use hem_tree::Tree;
+use hem_text::Place;
+use hem_tree::{SetupCause, SetupFault, Tree};
 
 /// A fault, where its rule is broken.
 fn fault_if(broken: bool, cause: SetupCause, place: Place) -> Option<SetupFault>

@@ -9,9 +9,8 @@ ghost use Rattle.hem_work.specs.Reading.{ReadsWork, raw_of};
 
 use crate::draft::{WorkDraft, nothing, start};
 use hem_base::{List, Message};
-use hem_text::Place;
 use hem_syntax::Protocol;
-use hem_text::{Cursor, Stack, TextError, read};
+use hem_text::{Cursor, Place, Stack, TextError, read};
 use std::alloc::Global;
 
 /// An entry of a work's text: an object and a line, each as a number with its place, and requests, each with the place of
