@@ -24,4 +24,4 @@ def of_document(document):
     numbers, illegal = replay(protocol, state, history)
     if illegal is not None:
         return firings.told(text, protocol, state, history, illegal)
-    return states.told(protocol, nodes, state, history, numbers)
+    return states.told(protocol, state, history, numbers)

@@ -9,7 +9,7 @@ WAITING = {'uprq': 'requests to its parent', 'uprs': 'responses to its parent', 
            'req': 'requests of its processor', 'ans': 'answers to its processor'}
 
 
-def told(protocol, nodes, state, history, numbers):
+def told(protocol, state, history, numbers):
     """The lines for a history that runs to a state."""
     lines = ['The history runs: %s, of %s.'
              % (counted(len(history), 'firing'), counted(len(set(numbers)), 'transaction'))]
@@ -43,7 +43,7 @@ def ending(state):
 
 def object_account(place, here):
     """Lines for one object: what it has, and what waits in its lists."""
-    where = {None: ''}.get(here.parent, ' below %s' % here.parent)
+    where = '' if here.parent is None else ' below %d' % here.parent
     has = ['%s is %s' % pair for pair in here.fields.items()] + ['its value is %d' % here.val]
     locks = ['its %slock is %s' % (side, held(lock)) for side, lock in (('up', here.up), ('down', here.down))
              if lock is not None]
