@@ -1,7 +1,7 @@
 """Tells why a text is no document: what stands at its first fault, and what could have stood there."""
 import difflib
 
-from reading import NAME_LIMIT, RESERVED, tokens
+from reading import NAME_LIMIT, RESERVED, tokens, value_of
 from shipped import SHIPPED
 
 from explaining.phrases import a_or_an, bulleted, listed, marked, quoted
@@ -102,7 +102,7 @@ def unknown(fault, read):
     near = difflib.get_close_matches(name, names, 3)
     if near:
         lines.append('Perhaps %s is meant.' % listed(quoted(near), 'or'))
-    return lines
+    return lines + (rules_of_object(read) if wanted == ['rule'] else [])
 
 
 def unexpected(fault, read):
@@ -116,6 +116,20 @@ def unexpected(fault, read):
     if kinds == {'end'}:
         return ['The document was finished before it (`expected`).']
     return ['Nothing of its sort can stand here (`expected`).']
+
+
+def rules_of_object(read):
+    """Which rules the object has whose number is the last of these tokens of a history."""
+    texts = [token.text for token in read]
+    tree = texts[texts.index('tree'):texts.index('work')]
+    kinds = [text for text in tree if text in ('root', 'mid', 'leaf')]
+    place = value_of(texts[-1])
+    if place >= len(kinds):
+        return ['The tree has no object %d: its objects are 0 to %d.' % (place, len(kinds) - 1)]
+    noun = 'a rule of kind ' + kinds[place]
+    names = [name for name, nouns in declared(read).items() if noun in nouns]
+    own = 'these rules: ' + ', '.join(quoted(names)) if names else 'no rules'
+    return ['Object %d is %s, and has %s.' % (place, 'the root' if place == 0 else 'a ' + kinds[place], own)]
 
 
 def declared(read):
