@@ -7,13 +7,6 @@ use std::process::Abort;
 use std::test::Fail;
 use std::thread::Threads;
 
-/// A document, and the answer to it.
-pub struct Row {
-    pub document: &'static str,
-    pub status: Status,
-    pub answer: &'static str,
-}
-
 /// The status of the job `group` over a document, and the sink to which it wrote.
 pub fn answer<R: Threads + Sync>(
     rt: &R,
@@ -40,18 +33,5 @@ pub fn check<R: Abort + Threads + Sync>(
     let written = str::from_utf8(sink.bytes()).unwrap_or("no text");
     assert_eq!(rt; written, text);
     assert_eq!(rt; given, status);
-    Ok(())
-}
-
-/// Asks for the answer to each document of a table, and compares it.
-pub fn check_rows<R: Abort + Threads + Sync>(
-    rt: &R,
-    alloc: Global,
-    rows: &[Row],
-) -> Result<(), Fail> {
-    for row in rows {
-        let document = row.document.as_bytes().to_vec(alloc)?;
-        check(rt, alloc, document, row.status, row.answer)?;
-    }
     Ok(())
 }

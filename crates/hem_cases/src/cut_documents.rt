@@ -1,424 +1,97 @@
 //! A good document, cut at the end of each of its tokens.
 
 use crate::call::check;
+use crate::table::line_of;
 use hem_cli::Status;
 use std::alloc::Global;
-use std::process::Abort;
 use std::test::Fail;
-use std::thread::Threads;
 
-/// The document token by token, each with the blanks before it and with the answer to all up to its end: the first
-/// part.
-pub static START: [(&str, &str); 102] = [
-    ("protocol", "text 1:9 expected\n"),
-    (" small", "text 1:15 expected\n"),
-    ("\nstatus", "text 2:7 expected\n"),
-    (" I", "text 2:9 expected\n"),
-    (" S", "text 2:11 expected\n"),
-    (" M", "text 2:13 expected\n"),
-    ("\nmessage", "text 3:8 expected\n"),
-    (" Ld", "text 3:11 expected\n"),
-    (" ext_req", "text 3:19 expected\n"),
-    ("\nmessage", "text 4:8 expected\n"),
-    (" St", "text 4:11 expected\n"),
-    (" ext_req", "text 4:19 expected\n"),
-    ("\nmessage", "text 5:8 expected\n"),
-    (" LdR", "text 5:12 expected\n"),
-    (" ext_rsp", "text 5:20 expected\n"),
-    ("\nmessage", "text 6:8 expected\n"),
-    (" StR", "text 6:12 expected\n"),
-    (" ext_rsp", "text 6:20 expected\n"),
-    ("\nmessage", "text 7:8 expected\n"),
-    (" GetM", "text 7:13 expected\n"),
-    (" up_req", "text 7:20 expected\n"),
-    ("\nmessage", "text 8:8 expected\n"),
-    (" Put", "text 8:12 expected\n"),
-    (" up_req", "text 8:19 expected\n"),
-    ("\nmessage", "text 9:8 expected\n"),
-    (" RsM", "text 9:12 expected\n"),
-    (" down_rsp", "text 9:21 expected\n"),
-    ("\nmessage", "text 10:8 expected\n"),
-    (" RsPut", "text 10:14 expected\n"),
-    (" down_rsp", "text 10:23 expected\n"),
-    ("\nmessage", "text 11:8 expected\n"),
-    (" Inv", "text 11:12 expected\n"),
-    (" down_req", "text 11:21 expected\n"),
-    ("\nmessage", "text 12:8 expected\n"),
-    (" InvR", "text 12:13 expected\n"),
-    (" up_rsp", "text 12:20 expected\n"),
-    ("\nkind", "text 13:5 expected\n"),
-    (" root", "text 13:10 expected\n"),
-    ("\nfield", "text 14:6 expected\n"),
-    (" st", "text 14:9 expected\n"),
-    (" init", "text 14:14 expected\n"),
-    (" M", "text 14:16 expected\n"),
-    ("\ndir", "text 15:4 expected\n"),
-    (" init", "text 15:9 expected\n"),
-    (" I", "text 15:11 expected\n"),
-    ("\nrule", "text 16:5 expected\n"),
-    (" getm_hit", "text 16:14 expected\n"),
-    (" take", "text 16:19 expected\n"),
-    (" me", "text 16:22 expected\n"),
-    (" GetM", "text 16:27 expected\n"),
-    (" need", "text 16:32 expected\n"),
-    (" up", "text 16:35 expected\n"),
-    (" free", "text 16:40 expected\n"),
-    (" down", "text 16:45 expected\n"),
-    (" free", "text 16:50 expected\n"),
-    (" when", "text 16:55 expected\n"),
-    (" st", "text 16:58 expected\n"),
-    (" in", "text 16:61 expected\n"),
-    (" M", "text 16:63 expected\n"),
-    (",", "text 16:64 expected\n"),
-    (" others", "text 16:71 expected\n"),
-    (" all", "text 16:75 expected\n"),
-    (" I", "text 16:77 expected\n"),
-    (" set", "text 16:81 expected\n"),
-    (" me", "text 16:84 expected\n"),
-    (" :=", "text 16:87 expected\n"),
-    (" M", "text 16:89 expected\n"),
-    (" send", "text 16:94 expected\n"),
-    (" me", "text 16:97 expected\n"),
-    (" RsM", "text 16:101 expected\n"),
-    (" val", "text 16:105 expected\n"),
-    (" end", "text 16:109 expected\n"),
-    ("\nrule", "text 17:5 expected\n"),
-    (" getm_inv", "text 17:14 expected\n"),
-    (" take", "text 17:19 expected\n"),
-    (" me", "text 17:22 expected\n"),
-    (" GetM", "text 17:27 expected\n"),
-    (" need", "text 17:32 expected\n"),
-    (" up", "text 17:35 expected\n"),
-    (" free", "text 17:40 expected\n"),
-    (" down", "text 17:45 expected\n"),
-    (" free", "text 17:50 expected\n"),
-    (" when", "text 17:55 expected\n"),
-    (" st", "text 17:58 expected\n"),
-    (" in", "text 17:61 expected\n"),
-    (" M", "text 17:63 expected\n"),
-    (",", "text 17:64 expected\n"),
-    (" others", "text 17:71 expected\n"),
-    (" any", "text 17:75 expected\n"),
-    (" S", "text 17:77 expected\n"),
-    (" M", "text 17:79 expected\n"),
-    (" lock", "text 17:84 expected\n"),
-    (" down", "text 17:89 expected\n"),
-    (" child", "text 17:95 expected\n"),
-    (" send", "text 17:100 expected\n"),
-    (" others", "text 17:107 expected\n"),
-    (" in", "text 17:110 expected\n"),
-    (" S", "text 17:112 expected\n"),
-    (" M", "text 17:114 expected\n"),
-    (" Inv", "text 17:118 expected\n"),
-    (" 0", "text 17:120 expected\n"),
-    (" end", "text 17:124 expected\n"),
-];
+const DOCUMENT: &str = "protocol small
+status I S M
+message Ld ext_req
+message St ext_req
+message LdR ext_rsp
+message StR ext_rsp
+message GetM up_req
+message Put up_req
+message RsM down_rsp
+message RsPut down_rsp
+message Inv down_req
+message InvR up_rsp
+kind root
+field st init M
+dir init I
+rule getm_hit take me GetM need up free down free when st in M, others all I set me := M send me RsM val end
+rule getm_inv take me GetM need up free down free when st in M, others any S M lock down child send others in S M Inv 0 end
+rule getm_done take kids InvR need up any down child when asked GetM set targets := I, me := M, val := rs free down send me RsM rs end
+rule put_m take me Put need up free down free when me in M set val := msg, me := I send me RsPut 0 end
+end
+kind mid
+field st init I
+dir init I
+rule inv_down take parent Inv need up any down free when st in S M, kids any S M lock down parent send kids in S M Inv 0 end
+rule inv_done take kids InvR need up any down parent when asked Inv set targets := I, st := I free down send parent InvR rs end
+rule evict take none need up free down free when kids all I lock up self send parent Put val end
+rule evict_ack take parent RsPut need up self down free set st := I free up end
+rule recall_done take kids InvR need up any down self set targets := I, val := rs free down end
+end
+kind leaf
+field st init S
+rule ld_hit take me Ld need up free down free when st in S M send me LdR val end
+rule st_resp take parent RsM need up child down free set st := M, val := kept free up send me StR 0 end
+end
+end
+tree root(mid(leaf leaf) leaf)
+work lines 2 self 1
+at 2 line 0 Ld 0
+at 4 line 1 Ld 7 St 8
+end
+history
+0 2 ld_hit
+1 4 ld_hit
+0 0 getm_hit from 1
+end";
 
-/// The last rules of the root.
-pub static ROOT: [(&str, &str); 60] = [
-    ("\nrule", "text 18:5 expected\n"),
-    (" getm_done", "text 18:15 expected\n"),
-    (" take", "text 18:20 expected\n"),
-    (" kids", "text 18:25 expected\n"),
-    (" InvR", "text 18:30 expected\n"),
-    (" need", "text 18:35 expected\n"),
-    (" up", "text 18:38 expected\n"),
-    (" any", "text 18:42 expected\n"),
-    (" down", "text 18:47 expected\n"),
-    (" child", "text 18:53 expected\n"),
-    (" when", "text 18:58 expected\n"),
-    (" asked", "text 18:64 expected\n"),
-    (" GetM", "text 18:69 expected\n"),
-    (" set", "text 18:73 expected\n"),
-    (" targets", "text 18:81 expected\n"),
-    (" :=", "text 18:84 expected\n"),
-    (" I", "text 18:86 expected\n"),
-    (",", "text 18:87 expected\n"),
-    (" me", "text 18:90 expected\n"),
-    (" :=", "text 18:93 expected\n"),
-    (" M", "text 18:95 expected\n"),
-    (",", "text 18:96 expected\n"),
-    (" val", "text 18:100 expected\n"),
-    (" :=", "text 18:103 expected\n"),
-    (" rs", "text 18:106 expected\n"),
-    (" free", "text 18:111 expected\n"),
-    (" down", "text 18:116 expected\n"),
-    (" send", "text 18:121 expected\n"),
-    (" me", "text 18:124 expected\n"),
-    (" RsM", "text 18:128 expected\n"),
-    (" rs", "text 18:131 expected\n"),
-    (" end", "text 18:135 expected\n"),
-    ("\nrule", "text 19:5 expected\n"),
-    (" put_m", "text 19:11 expected\n"),
-    (" take", "text 19:16 expected\n"),
-    (" me", "text 19:19 expected\n"),
-    (" Put", "text 19:23 expected\n"),
-    (" need", "text 19:28 expected\n"),
-    (" up", "text 19:31 expected\n"),
-    (" free", "text 19:36 expected\n"),
-    (" down", "text 19:41 expected\n"),
-    (" free", "text 19:46 expected\n"),
-    (" when", "text 19:51 expected\n"),
-    (" me", "text 19:54 expected\n"),
-    (" in", "text 19:57 expected\n"),
-    (" M", "text 19:59 expected\n"),
-    (" set", "text 19:63 expected\n"),
-    (" val", "text 19:67 expected\n"),
-    (" :=", "text 19:70 expected\n"),
-    (" msg", "text 19:74 expected\n"),
-    (",", "text 19:75 expected\n"),
-    (" me", "text 19:78 expected\n"),
-    (" :=", "text 19:81 expected\n"),
-    (" I", "text 19:83 expected\n"),
-    (" send", "text 19:88 expected\n"),
-    (" me", "text 19:91 expected\n"),
-    (" RsPut", "text 19:97 expected\n"),
-    (" 0", "text 19:99 expected\n"),
-    (" end", "text 19:103 expected\n"),
-    ("\nend", "text 20:4 expected\n"),
-];
-
-/// The first rules of the mid.
-pub static MID: [(&str, &str); 68] = [
-    ("\nkind", "text 21:5 expected\n"),
-    (" mid", "text 21:9 expected\n"),
-    ("\nfield", "text 22:6 expected\n"),
-    (" st", "text 22:9 expected\n"),
-    (" init", "text 22:14 expected\n"),
-    (" I", "text 22:16 expected\n"),
-    ("\ndir", "text 23:4 expected\n"),
-    (" init", "text 23:9 expected\n"),
-    (" I", "text 23:11 expected\n"),
-    ("\nrule", "text 24:5 expected\n"),
-    (" inv_down", "text 24:14 expected\n"),
-    (" take", "text 24:19 expected\n"),
-    (" parent", "text 24:26 expected\n"),
-    (" Inv", "text 24:30 expected\n"),
-    (" need", "text 24:35 expected\n"),
-    (" up", "text 24:38 expected\n"),
-    (" any", "text 24:42 expected\n"),
-    (" down", "text 24:47 expected\n"),
-    (" free", "text 24:52 expected\n"),
-    (" when", "text 24:57 expected\n"),
-    (" st", "text 24:60 expected\n"),
-    (" in", "text 24:63 expected\n"),
-    (" S", "text 24:65 expected\n"),
-    (" M", "text 24:67 expected\n"),
-    (",", "text 24:68 expected\n"),
-    (" kids", "text 24:73 expected\n"),
-    (" any", "text 24:77 expected\n"),
-    (" S", "text 24:79 expected\n"),
-    (" M", "text 24:81 expected\n"),
-    (" lock", "text 24:86 expected\n"),
-    (" down", "text 24:91 expected\n"),
-    (" parent", "text 24:98 expected\n"),
-    (" send", "text 24:103 expected\n"),
-    (" kids", "text 24:108 expected\n"),
-    (" in", "text 24:111 expected\n"),
-    (" S", "text 24:113 expected\n"),
-    (" M", "text 24:115 expected\n"),
-    (" Inv", "text 24:119 expected\n"),
-    (" 0", "text 24:121 expected\n"),
-    (" end", "text 24:125 expected\n"),
-    ("\nrule", "text 25:5 expected\n"),
-    (" inv_done", "text 25:14 expected\n"),
-    (" take", "text 25:19 expected\n"),
-    (" kids", "text 25:24 expected\n"),
-    (" InvR", "text 25:29 expected\n"),
-    (" need", "text 25:34 expected\n"),
-    (" up", "text 25:37 expected\n"),
-    (" any", "text 25:41 expected\n"),
-    (" down", "text 25:46 expected\n"),
-    (" parent", "text 25:53 expected\n"),
-    (" when", "text 25:58 expected\n"),
-    (" asked", "text 25:64 expected\n"),
-    (" Inv", "text 25:68 expected\n"),
-    (" set", "text 25:72 expected\n"),
-    (" targets", "text 25:80 expected\n"),
-    (" :=", "text 25:83 expected\n"),
-    (" I", "text 25:85 expected\n"),
-    (",", "text 25:86 expected\n"),
-    (" st", "text 25:89 expected\n"),
-    (" :=", "text 25:92 expected\n"),
-    (" I", "text 25:94 expected\n"),
-    (" free", "text 25:99 expected\n"),
-    (" down", "text 25:104 expected\n"),
-    (" send", "text 25:109 expected\n"),
-    (" parent", "text 25:116 expected\n"),
-    (" InvR", "text 25:121 expected\n"),
-    (" rs", "text 25:124 expected\n"),
-    (" end", "text 25:128 expected\n"),
-];
-
-/// The last rules of the mid.
-pub static MORE: [(&str, &str); 60] = [
-    ("\nrule", "text 26:5 expected\n"),
-    (" evict", "text 26:11 expected\n"),
-    (" take", "text 26:16 expected\n"),
-    (" none", "text 26:21 expected\n"),
-    (" need", "text 26:26 expected\n"),
-    (" up", "text 26:29 expected\n"),
-    (" free", "text 26:34 expected\n"),
-    (" down", "text 26:39 expected\n"),
-    (" free", "text 26:44 expected\n"),
-    (" when", "text 26:49 expected\n"),
-    (" kids", "text 26:54 expected\n"),
-    (" all", "text 26:58 expected\n"),
-    (" I", "text 26:60 expected\n"),
-    (" lock", "text 26:65 expected\n"),
-    (" up", "text 26:68 expected\n"),
-    (" self", "text 26:73 expected\n"),
-    (" send", "text 26:78 expected\n"),
-    (" parent", "text 26:85 expected\n"),
-    (" Put", "text 26:89 expected\n"),
-    (" val", "text 26:93 expected\n"),
-    (" end", "text 26:97 expected\n"),
-    ("\nrule", "text 27:5 expected\n"),
-    (" evict_ack", "text 27:15 expected\n"),
-    (" take", "text 27:20 expected\n"),
-    (" parent", "text 27:27 expected\n"),
-    (" RsPut", "text 27:33 expected\n"),
-    (" need", "text 27:38 expected\n"),
-    (" up", "text 27:41 expected\n"),
-    (" self", "text 27:46 expected\n"),
-    (" down", "text 27:51 expected\n"),
-    (" free", "text 27:56 expected\n"),
-    (" set", "text 27:60 expected\n"),
-    (" st", "text 27:63 expected\n"),
-    (" :=", "text 27:66 expected\n"),
-    (" I", "text 27:68 expected\n"),
-    (" free", "text 27:73 expected\n"),
-    (" up", "text 27:76 expected\n"),
-    (" end", "text 27:80 expected\n"),
-    ("\nrule", "text 28:5 expected\n"),
-    (" recall_done", "text 28:17 expected\n"),
-    (" take", "text 28:22 expected\n"),
-    (" kids", "text 28:27 expected\n"),
-    (" InvR", "text 28:32 expected\n"),
-    (" need", "text 28:37 expected\n"),
-    (" up", "text 28:40 expected\n"),
-    (" any", "text 28:44 expected\n"),
-    (" down", "text 28:49 expected\n"),
-    (" self", "text 28:54 expected\n"),
-    (" set", "text 28:58 expected\n"),
-    (" targets", "text 28:66 expected\n"),
-    (" :=", "text 28:69 expected\n"),
-    (" I", "text 28:71 expected\n"),
-    (",", "text 28:72 expected\n"),
-    (" val", "text 28:76 expected\n"),
-    (" :=", "text 28:79 expected\n"),
-    (" rs", "text 28:82 expected\n"),
-    (" free", "text 28:87 expected\n"),
-    (" down", "text 28:92 expected\n"),
-    (" end", "text 28:96 expected\n"),
-    ("\nend", "text 29:4 expected\n"),
-];
-
-/// The leaf.
-pub static LEAF: [(&str, &str); 53] = [
-    ("\nkind", "text 30:5 expected\n"),
-    (" leaf", "text 30:10 expected\n"),
-    ("\nfield", "text 31:6 expected\n"),
-    (" st", "text 31:9 expected\n"),
-    (" init", "text 31:14 expected\n"),
-    (" S", "text 31:16 expected\n"),
-    ("\nrule", "text 32:5 expected\n"),
-    (" ld_hit", "text 32:12 expected\n"),
-    (" take", "text 32:17 expected\n"),
-    (" me", "text 32:20 expected\n"),
-    (" Ld", "text 32:23 expected\n"),
-    (" need", "text 32:28 expected\n"),
-    (" up", "text 32:31 expected\n"),
-    (" free", "text 32:36 expected\n"),
-    (" down", "text 32:41 expected\n"),
-    (" free", "text 32:46 expected\n"),
-    (" when", "text 32:51 expected\n"),
-    (" st", "text 32:54 expected\n"),
-    (" in", "text 32:57 expected\n"),
-    (" S", "text 32:59 expected\n"),
-    (" M", "text 32:61 expected\n"),
-    (" send", "text 32:66 expected\n"),
-    (" me", "text 32:69 expected\n"),
-    (" LdR", "text 32:73 expected\n"),
-    (" val", "text 32:77 expected\n"),
-    (" end", "text 32:81 expected\n"),
-    ("\nrule", "text 33:5 expected\n"),
-    (" st_resp", "text 33:13 expected\n"),
-    (" take", "text 33:18 expected\n"),
-    (" parent", "text 33:25 expected\n"),
-    (" RsM", "text 33:29 expected\n"),
-    (" need", "text 33:34 expected\n"),
-    (" up", "text 33:37 expected\n"),
-    (" child", "text 33:43 expected\n"),
-    (" down", "text 33:48 expected\n"),
-    (" free", "text 33:53 expected\n"),
-    (" set", "text 33:57 expected\n"),
-    (" st", "text 33:60 expected\n"),
-    (" :=", "text 33:63 expected\n"),
-    (" M", "text 33:65 expected\n"),
-    (",", "text 33:66 expected\n"),
-    (" val", "text 33:70 expected\n"),
-    (" :=", "text 33:73 expected\n"),
-    (" kept", "text 33:78 expected\n"),
-    (" free", "text 33:83 expected\n"),
-    (" up", "text 33:86 expected\n"),
-    (" send", "text 33:91 expected\n"),
-    (" me", "text 33:94 expected\n"),
-    (" StR", "text 33:98 expected\n"),
-    (" 0", "text 33:100 expected\n"),
-    (" end", "text 33:104 expected\n"),
-    ("\nend", "text 34:4 expected\n"),
-    ("\nend", "text 35:4 expected\n"),
-];
-
-/// The tree, the work and the history, but for the last token.
-pub static REST: [(&str, &str); 42] = [
-    ("\ntree", "text 36:5 expected\n"),
-    (" root", "text 36:10 expected\n"),
-    ("(", "text 36:11 expected\n"),
-    ("mid", "text 36:14 expected\n"),
-    ("(", "text 36:15 expected\n"),
-    ("leaf", "text 36:19 expected\n"),
-    (" leaf", "text 36:24 expected\n"),
-    (")", "text 36:25 expected\n"),
-    (" leaf", "text 36:30 expected\n"),
-    (")", "text 36:31 expected\n"),
-    ("\nwork", "text 37:5 expected\n"),
-    (" lines", "text 37:11 expected\n"),
-    (" 2", "text 37:13 expected\n"),
-    (" self", "text 37:18 expected\n"),
-    (" 1", "text 37:20 expected\n"),
-    ("\nat", "text 38:3 expected\n"),
-    (" 2", "text 38:5 expected\n"),
-    (" line", "text 38:10 expected\n"),
-    (" 0", "text 38:12 expected\n"),
-    (" Ld", "text 38:15 expected\n"),
-    (" 0", "text 38:17 expected\n"),
-    ("\nat", "text 39:3 expected\n"),
-    (" 4", "text 39:5 expected\n"),
-    (" line", "text 39:10 expected\n"),
-    (" 1", "text 39:12 expected\n"),
-    (" Ld", "text 39:15 expected\n"),
-    (" 7", "text 39:17 expected\n"),
-    (" St", "text 39:20 expected\n"),
-    (" 8", "text 39:22 expected\n"),
-    ("\nend", "text 40:4 expected\n"),
-    ("\nhistory", "text 41:8 expected\n"),
-    ("\n0", "text 42:2 expected\n"),
-    (" 2", "text 42:4 expected\n"),
-    (" ld_hit", "text 42:11 expected\n"),
-    ("\n1", "text 43:2 expected\n"),
-    (" 4", "text 43:4 expected\n"),
-    (" ld_hit", "text 43:11 expected\n"),
-    ("\n0", "text 44:2 expected\n"),
-    (" 0", "text 44:4 expected\n"),
-    (" getm_hit", "text 44:13 expected\n"),
-    (" from", "text 44:18 expected\n"),
-    (" 1", "text 44:20 expected\n"),
-];
-
-/// The last token.
-const LAST: &str = "\nend";
+/// After how many bytes the document is cut, and the place of the end there, which is its first fault.
+const CUTS: &str = "
+8=1:9 14=1:15 21=2:7 23=2:9 25=2:11 27=2:13 35=3:8 38=3:11 46=3:19 54=4:8 57=4:11 65=4:19 73=5:8 77=5:12
+85=5:20 93=6:8 97=6:12 105=6:20 113=7:8 118=7:13 125=7:20 133=8:8 137=8:12 144=8:19 152=9:8 156=9:12 165=9:21
+173=10:8 179=10:14 188=10:23 196=11:8 200=11:12 209=11:21 217=12:8 222=12:13 229=12:20 234=13:5 239=13:10
+245=14:6 248=14:9 253=14:14 255=14:16 259=15:4 264=15:9 266=15:11 271=16:5 280=16:14 285=16:19 288=16:22
+293=16:27 298=16:32 301=16:35 306=16:40 311=16:45 316=16:50 321=16:55 324=16:58 327=16:61 329=16:63 330=16:64
+337=16:71 341=16:75 343=16:77 347=16:81 350=16:84 353=16:87 355=16:89 360=16:94 363=16:97 367=16:101
+371=16:105 375=16:109 380=17:5 389=17:14 394=17:19 397=17:22 402=17:27 407=17:32 410=17:35 415=17:40 420=17:45
+425=17:50 430=17:55 433=17:58 436=17:61 438=17:63 439=17:64 446=17:71 450=17:75 452=17:77 454=17:79 459=17:84
+464=17:89 470=17:95 475=17:100 482=17:107 485=17:110 487=17:112 489=17:114 493=17:118 495=17:120 499=17:124
+504=18:5 514=18:15 519=18:20 524=18:25 529=18:30 534=18:35 537=18:38 541=18:42 546=18:47 552=18:53 557=18:58
+563=18:64 568=18:69 572=18:73 580=18:81 583=18:84 585=18:86 586=18:87 589=18:90 592=18:93 594=18:95 595=18:96
+599=18:100 602=18:103 605=18:106 610=18:111 615=18:116 620=18:121 623=18:124 627=18:128 630=18:131 634=18:135
+639=19:5 645=19:11 650=19:16 653=19:19 657=19:23 662=19:28 665=19:31 670=19:36 675=19:41 680=19:46 685=19:51
+688=19:54 691=19:57 693=19:59 697=19:63 701=19:67 704=19:70 708=19:74 709=19:75 712=19:78 715=19:81 717=19:83
+722=19:88 725=19:91 731=19:97 733=19:99 737=19:103 741=20:4 746=21:5 750=21:9 756=22:6 759=22:9 764=22:14
+766=22:16 770=23:4 775=23:9 777=23:11 782=24:5 791=24:14 796=24:19 803=24:26 807=24:30 812=24:35 815=24:38
+819=24:42 824=24:47 829=24:52 834=24:57 837=24:60 840=24:63 842=24:65 844=24:67 845=24:68 850=24:73 854=24:77
+856=24:79 858=24:81 863=24:86 868=24:91 875=24:98 880=24:103 885=24:108 888=24:111 890=24:113 892=24:115
+896=24:119 898=24:121 902=24:125 907=25:5 916=25:14 921=25:19 926=25:24 931=25:29 936=25:34 939=25:37
+943=25:41 948=25:46 955=25:53 960=25:58 966=25:64 970=25:68 974=25:72 982=25:80 985=25:83 987=25:85 988=25:86
+991=25:89 994=25:92 996=25:94 1001=25:99 1006=25:104 1011=25:109 1018=25:116 1023=25:121 1026=25:124
+1030=25:128 1035=26:5 1041=26:11 1046=26:16 1051=26:21 1056=26:26 1059=26:29 1064=26:34 1069=26:39 1074=26:44
+1079=26:49 1084=26:54 1088=26:58 1090=26:60 1095=26:65 1098=26:68 1103=26:73 1108=26:78 1115=26:85 1119=26:89
+1123=26:93 1127=26:97 1132=27:5 1142=27:15 1147=27:20 1154=27:27 1160=27:33 1165=27:38 1168=27:41 1173=27:46
+1178=27:51 1183=27:56 1187=27:60 1190=27:63 1193=27:66 1195=27:68 1200=27:73 1203=27:76 1207=27:80 1212=28:5
+1224=28:17 1229=28:22 1234=28:27 1239=28:32 1244=28:37 1247=28:40 1251=28:44 1256=28:49 1261=28:54 1265=28:58
+1273=28:66 1276=28:69 1278=28:71 1279=28:72 1283=28:76 1286=28:79 1289=28:82 1294=28:87 1299=28:92 1303=28:96
+1307=29:4 1312=30:5 1317=30:10 1323=31:6 1326=31:9 1331=31:14 1333=31:16 1338=32:5 1345=32:12 1350=32:17
+1353=32:20 1356=32:23 1361=32:28 1364=32:31 1369=32:36 1374=32:41 1379=32:46 1384=32:51 1387=32:54 1390=32:57
+1392=32:59 1394=32:61 1399=32:66 1402=32:69 1406=32:73 1410=32:77 1414=32:81 1419=33:5 1427=33:13 1432=33:18
+1439=33:25 1443=33:29 1448=33:34 1451=33:37 1457=33:43 1462=33:48 1467=33:53 1471=33:57 1474=33:60 1477=33:63
+1479=33:65 1480=33:66 1484=33:70 1487=33:73 1492=33:78 1497=33:83 1500=33:86 1505=33:91 1508=33:94 1512=33:98
+1514=33:100 1518=33:104 1522=34:4 1526=35:4 1531=36:5 1536=36:10 1537=36:11 1540=36:14 1541=36:15 1545=36:19
+1550=36:24 1551=36:25 1556=36:30 1557=36:31 1562=37:5 1568=37:11 1570=37:13 1575=37:18 1577=37:20 1580=38:3
+1582=38:5 1587=38:10 1589=38:12 1592=38:15 1594=38:17 1597=39:3 1599=39:5 1604=39:10 1606=39:12 1609=39:15
+1611=39:17 1614=39:20 1616=39:22 1620=40:4 1628=41:8 1630=42:2 1632=42:4 1639=42:11 1641=43:2 1643=43:4
+1650=43:11 1652=44:2 1654=44:4 1663=44:13 1668=44:18 1670=44:20
+";
 
 /// The answer to the whole document: its last firing is not possible.
 const ANSWER: &str = "illegal 2
@@ -441,51 +114,30 @@ ans 4 LdR:0
 end
 ";
 
-fn start() -> &'static [(&'static str, &'static str)] {
-    &START
-}
-
-fn root() -> &'static [(&'static str, &'static str)] {
-    &ROOT
-}
-
-fn mid() -> &'static [(&'static str, &'static str)] {
-    &MID
-}
-
-fn more() -> &'static [(&'static str, &'static str)] {
-    &MORE
-}
-
-fn leaf() -> &'static [(&'static str, &'static str)] {
-    &LEAF
-}
-
-fn rest() -> &'static [(&'static str, &'static str)] {
-    &REST
-}
-
-/// Appends the pieces, and compares the answer to all up to each.
-fn check_cuts<R: Abort + Threads + Sync>(
-    rt: &R,
-    alloc: Global,
-    bytes: &mut Vec<u8>,
-    pieces: &[(&str, &str)],
-) -> Result<(), Fail> {
-    for (piece, answer) in pieces {
-        bytes.extend_from_slice(piece.as_bytes())?;
-        let document = bytes.as_slice().to_vec(alloc)?;
-        check(rt, alloc, document, Status::Text, answer)?;
+/// The first bytes of the document.
+fn cut(alloc: Global, bytes: usize) -> Result<Vec<u8>, Fail> {
+    match DOCUMENT.as_bytes().get(..bytes) {
+        Some(front) => Ok(Vec::from_slice(alloc, front)?),
+        None => Err("a cut behind the end")?,
     }
-    Ok(())
+}
+
+/// The answer to a document that ends at a place at which more is expected.
+fn answer_at(alloc: Global, place: &str) -> Result<String, Fail> {
+    let mut text = String::from_str(alloc, "text ")?;
+    text.push_str(place)?;
+    text.push_str(" expected")?;
+    line_of(alloc, &text)
 }
 
 #[test]
 fn cut_documents(rt: HostRuntime) -> Result<(), Fail> {
-    let mut bytes = Vec::new(rt.alloc());
-    for pieces in [start(), root(), mid(), more(), leaf(), rest()] {
-        check_cuts(&rt, rt.alloc(), &mut bytes, pieces)?;
+    for word in CUTS.split_whitespace() {
+        let (bytes, place) = word.split_once("=").ok_or("a cut without a place")?;
+        let document = cut(rt.alloc(), bytes.parse::<usize>()?)?;
+        let answer = answer_at(rt.alloc(), place)?;
+        check(&rt, rt.alloc(), document, Status::Text, &answer)?;
     }
-    bytes.extend_from_slice(LAST.as_bytes())?;
-    check(&rt, rt.alloc(), bytes, Status::Illegal, ANSWER)
+    let whole = Vec::from_slice(rt.alloc(), DOCUMENT.as_bytes())?;
+    check(&rt, rt.alloc(), whole, Status::Illegal, ANSWER)
 }

@@ -1,4 +1,4 @@
-//! Single firings: each part of a rule, at each kind of object.
+//! Single firings: each part of a rule at a mid, and what differs at a root and at a leaf.
 
 mod leaf;
 mod mid;
@@ -7,11 +7,12 @@ mod rules;
 mod scene;
 
 use self::rules::{END, HEAD, LEAF, MID, RULES};
-use self::scene::{Change, Fires, Held, I, M, S, Scene, Sent, Stays};
+use self::scene::{Change, Fires, I, M, S, Scene, Stays};
 use crate::reading::protocol_of;
 use arrayvec::ArrayVec;
-use hem_base::{KidSet, Kind, Message, RuleId, Status8};
-use hem_fire::{Heads, Local, Lock, Outs, can, fire};
+use hem_base::{Kind, Message, RuleId, Status8};
+use hem_fire::{Heads, Outs, can, fire};
+use hem_object::Local;
 use hem_syntax::{Protocol, Rule};
 use std::alloc::Global;
 use std::process::Abort;
@@ -33,21 +34,7 @@ fn rule_of<'a>(p: &'a Protocol, kind: Kind, name: &str) -> Result<&'a Rule, Fail
     Ok(p.rule(kind, RuleId(id)).ok_or("no such rule")?)
 }
 
-fn message_of(sent: Sent) -> Message {
-    Message {
-        id: sent.0,
-        value: sent.1,
-    }
-}
-
-fn lock_of(held: Held) -> Lock {
-    Lock {
-        by: held.0,
-        request: message_of((held.1, held.2)),
-        awaited: KidSet(held.3),
-    }
-}
-
+/// What an object holds.
 fn local_of(scene: &Scene) -> Result<Local, Fail> {
     let mut fields = ArrayVec::<Status8, 3>::new();
     fields.try_extend_from_slice([scene.field].as_slice())?;
@@ -57,8 +44,8 @@ fn local_of(scene: &Scene) -> Result<Local, Fail> {
         fields,
         dir,
         val: 7,
-        up: scene.up.map(lock_of),
-        down: scene.down.map(lock_of),
+        up: scene.up,
+        down: scene.down,
     })
 }
 
@@ -66,12 +53,12 @@ fn heads_of(scene: &Scene) -> Heads {
     let mut kids = ArrayVec::<Option<Message>, 8>::new();
     for head in scene.kids {
         if kids.len() < 8 {
-            kids.push(head.map(message_of));
+            kids.push(*head);
         }
     }
     Heads {
-        me: scene.me.map(message_of),
-        parent: scene.parent.map(message_of),
+        request: scene.request,
+        parent: scene.parent,
         kids,
     }
 }
@@ -88,15 +75,15 @@ fn make(local: &mut Local, change: Change) {
                 local.dir[place] = status;
             }
         }
-        Change::Up(held) => local.up = held.map(lock_of),
-        Change::Down(held) => local.down = held.map(lock_of),
+        Change::Up(lock) => local.up = lock,
+        Change::Down(lock) => local.down = lock,
     }
 }
 
 /// What the object is to hold after the firing.
 fn left_of(row: &Fires) -> Result<Local, Fail> {
-    let mut local = local_of(&row.2)?;
-    for change in row.3 {
+    let mut local = local_of(&row.scene)?;
+    for change in row.changes {
         make(&mut local, *change);
     }
     Ok(local)
@@ -104,13 +91,12 @@ fn left_of(row: &Fires) -> Result<Local, Fail> {
 
 /// What the firing is to take and to send.
 fn outs_of(row: &Fires) -> Outs {
-    let (taken_request, taken_parent, kids) = row.4;
     Outs {
-        taken_request,
-        taken_parent,
-        taken_kids: KidSet(kids),
-        to: row.5,
-        message: message_of(row.6),
+        taken_request: row.taken.request,
+        taken_parent: row.taken.parent,
+        taken_kids: row.taken.kids,
+        to: row.to,
+        message: row.message,
     }
 }
 
@@ -123,24 +109,24 @@ fn is_left<R: Abort>(rt: &R, name: &str, local: &Local, want: &Local) {
 }
 
 fn fires<R: Abort>(rt: &R, p: &Protocol, kind: Kind, row: &Fires) -> Result<(), Fail> {
-    let rule = rule_of(p, kind, row.0)?;
-    let heads = heads_of(&row.2);
-    let mut local = local_of(&row.2)?;
-    if !can(p, kind, rule, row.1, &local, &heads) {
-        return Err(row.0)?;
+    let rule = rule_of(p, kind, row.rule)?;
+    let heads = heads_of(&row.scene);
+    let mut local = local_of(&row.scene)?;
+    if !can(p, kind, rule, row.child, &local, &heads) {
+        return Err(row.rule)?;
     }
-    let outs = fire(p, kind, rule, row.1, &mut local, &heads);
-    assert_eq!(rt; outs, outs_of(row), "{}", row.0);
-    is_left(rt, row.0, &local, &left_of(row)?);
+    let outs = fire(p, kind, rule, row.child, &mut local, &heads);
+    assert_eq!(rt; outs, outs_of(row), "{}", row.rule);
+    is_left(rt, row.rule, &local, &left_of(row)?);
     Ok(())
 }
 
 fn stays<R: Abort>(rt: &R, p: &Protocol, kind: Kind, row: &Stays) -> Result<(), Fail> {
-    let rule = rule_of(p, kind, row.0)?;
-    let heads = heads_of(&row.2);
-    let local = local_of(&row.2)?;
-    let is_possible = can(p, kind, rule, row.1, &local, &heads);
-    assert!(rt; !is_possible, "{}", row.0);
+    let rule = rule_of(p, kind, row.rule)?;
+    let heads = heads_of(&row.scene);
+    let local = local_of(&row.scene)?;
+    let is_possible = can(p, kind, rule, row.child, &local, &heads);
+    assert!(rt; !is_possible, "{}", row.rule);
     Ok(())
 }
 

@@ -9,14 +9,18 @@ mod cut_documents;
 #[cfg(test)]
 mod firings;
 #[cfg(test)]
+mod greatest;
+#[cfg(test)]
 mod long_documents;
 #[cfg(test)]
 mod reading;
-#[cfg(test)]
-mod replaced_tokens;
 #[cfg(test)]
 mod setup_faults;
 #[cfg(test)]
 mod shipped_texts;
 #[cfg(test)]
+mod table;
+#[cfg(test)]
 mod text_faults;
+#[cfg(test)]
+mod worked_histories;

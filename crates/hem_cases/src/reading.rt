@@ -2,7 +2,7 @@
 
 use hem_parser::protocol;
 use hem_syntax::Protocol;
-use hem_text::{Cursor, tokens};
+use hem_text::Cursor;
 use std::alloc::Global;
 use std::test::Fail;
 
@@ -11,12 +11,7 @@ pub fn protocol_of(alloc: Global, text: &[u8]) -> Result<Protocol, Fail> {
     if text.len() > 1_000_000 {
         return Err("the text is too long")?;
     }
-    let tokens = tokens(alloc, text)?;
-    let mut cursor = Cursor {
-        bytes: text,
-        tokens: tokens.as_slice(),
-        at: 0,
-    };
+    let mut cursor = Cursor::new(text);
     match protocol(alloc, &mut cursor) {
         Ok(p) => Ok(p),
         Err(_) => Err("the text is no protocol")?,

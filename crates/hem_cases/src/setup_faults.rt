@@ -1,169 +1,62 @@
 //! Documents whose tree or work breaks a rule, each with the first one at its place.
 
-use crate::call::{Row, check_rows};
+use crate::table::{check_refused, row_of, unfold};
 use hem_cli::Status;
 use std::test::Fail;
 
-pub static ROWS: [Row; 29] = [
+/// The tree and the work of a document over inclusive MSI, and the answer.
+static ROWS: [&str; 29] = [
     // Each cause of the tree, once.
-    Row {
-        document: "use msi_inclusive\ntree root(mid(leaf leaf leaf leaf leaf leaf leaf) mid(leaf leaf leaf leaf leaf leaf leaf) mid(leaf leaf leaf leaf leaf leaf leaf) mid(leaf leaf leaf leaf leaf leaf leaf) mid(leaf leaf leaf leaf leaf leaf leaf) mid(leaf leaf leaf leaf leaf leaf leaf) mid(leaf leaf leaf leaf leaf leaf leaf) mid(leaf leaf leaf leaf leaf leaf leaf))\nwork lines 1 self 0 end\nhistory end\n",
-        status: Status::Setup,
-        answer: "setup 2:325 objects\n",
-    },
-    Row {
-        document: "use msi_inclusive\ntree root(leaf leaf leaf leaf leaf leaf leaf leaf leaf)\nwork lines 1 self 0 end\nhistory end\n",
-        status: Status::Setup,
-        answer: "setup 2:51 children\n",
-    },
-    Row {
-        document: "use msi_inclusive\ntree root(mid(mid(mid(mid(mid(mid(mid(mid(leaf)))))))))\nwork lines 1 self 0 end\nhistory end\n",
-        status: Status::Setup,
-        answer: "setup 2:39 levels\n",
-    },
-    Row {
-        document: "use msi_inclusive\ntree root(mid(mid(mid(mid(mid(mid(mid(leaf))))))))\nwork lines 1 self 0 end\nhistory end\n",
-        status: Status::Setup,
-        answer: "setup 2:39 levels\n",
-    },
+    "tree root(mid(leaf leaf leaf leaf leaf leaf leaf) mid(leaf leaf leaf leaf leaf leaf leaf) mid(leaf leaf leaf leaf leaf leaf leaf) mid(leaf leaf leaf leaf leaf leaf leaf) mid(leaf leaf leaf leaf leaf leaf leaf) mid(leaf leaf leaf leaf leaf leaf leaf) mid(leaf leaf leaf leaf leaf leaf leaf) mid(leaf leaf leaf leaf leaf leaf leaf))/work lines 1 self 0 => setup 2:325 objects",
+    "tree root(leaf leaf leaf leaf leaf leaf leaf leaf leaf)/work lines 1 self 0 => setup 2:51 children",
+    "tree root(mid(mid(mid(mid(mid(mid(mid(mid(leaf)))))))))/work lines 1 self 0 => setup 2:39 levels",
+    "tree root(mid(mid(mid(mid(mid(mid(mid(leaf))))))))/work lines 1 self 0 => setup 2:39 levels",
     // Two at one node.
-    Row {
-        document: "use msi_inclusive\ntree root(mid(leaf leaf leaf leaf leaf leaf leaf leaf) mid(leaf leaf leaf leaf leaf leaf leaf leaf) mid(leaf leaf leaf leaf leaf leaf leaf leaf) mid(leaf leaf leaf leaf leaf leaf leaf leaf) mid(leaf leaf leaf leaf leaf leaf leaf leaf) mid(leaf leaf leaf leaf leaf leaf leaf leaf) mid(leaf leaf leaf leaf leaf leaf leaf leaf leaf))\nwork lines 1 self 0 end\nhistory end\n",
-        status: Status::Setup,
-        answer: "setup 2:325 objects\n",
-    },
-    Row {
-        document: "use msi_inclusive\ntree root(mid(leaf leaf leaf leaf leaf leaf leaf leaf) mid(leaf leaf leaf leaf leaf leaf leaf leaf) mid(leaf leaf leaf leaf leaf leaf leaf leaf) mid(leaf leaf leaf leaf leaf leaf leaf leaf) mid(leaf leaf leaf leaf leaf leaf leaf leaf) mid(mid(leaf leaf leaf leaf leaf leaf leaf leaf)) leaf mid(mid(mid(mid(mid(mid(mid(leaf))))))))\nwork lines 1 self 0 end\nhistory end\n",
-        status: Status::Setup,
-        answer: "setup 2:319 objects\n",
-    },
+    "tree root(mid(leaf leaf leaf leaf leaf leaf leaf leaf) mid(leaf leaf leaf leaf leaf leaf leaf leaf) mid(leaf leaf leaf leaf leaf leaf leaf leaf) mid(leaf leaf leaf leaf leaf leaf leaf leaf) mid(leaf leaf leaf leaf leaf leaf leaf leaf) mid(leaf leaf leaf leaf leaf leaf leaf leaf) mid(leaf leaf leaf leaf leaf leaf leaf leaf leaf))/work lines 1 self 0 => setup 2:325 objects",
+    "tree root(mid(leaf leaf leaf leaf leaf leaf leaf leaf) mid(leaf leaf leaf leaf leaf leaf leaf leaf) mid(leaf leaf leaf leaf leaf leaf leaf leaf) mid(leaf leaf leaf leaf leaf leaf leaf leaf) mid(leaf leaf leaf leaf leaf leaf leaf leaf) mid(mid(leaf leaf leaf leaf leaf leaf leaf leaf)) leaf mid(mid(mid(mid(mid(mid(mid(leaf))))))))/work lines 1 self 0 => setup 2:319 objects",
     // Two at different nodes: the first in the text.
-    Row {
-        document: "use msi_inclusive\ntree root(leaf leaf leaf leaf leaf leaf leaf leaf mid(mid(mid(mid(mid(mid(mid(leaf))))))))\nwork lines 1 self 0 end\nhistory end\n",
-        status: Status::Setup,
-        answer: "setup 2:51 children\n",
-    },
-    Row {
-        document: "use msi_inclusive\ntree root(mid(mid(mid(mid(mid(mid(mid(leaf))))))) leaf leaf leaf leaf leaf leaf leaf leaf)\nwork lines 1 self 0 end\nhistory end\n",
-        status: Status::Setup,
-        answer: "setup 2:39 levels\n",
-    },
-    Row {
-        document: "use msi_inclusive\ntree root(mid(leaf leaf leaf leaf leaf leaf leaf leaf leaf) mid(mid(mid(mid(mid(mid(mid(leaf))))))))\nwork lines 1 self 0 end\nhistory end\n",
-        status: Status::Setup,
-        answer: "setup 2:55 children\n",
-    },
+    "tree root(leaf leaf leaf leaf leaf leaf leaf leaf mid(mid(mid(mid(mid(mid(mid(leaf))))))))/work lines 1 self 0 => setup 2:51 children",
+    "tree root(mid(mid(mid(mid(mid(mid(mid(leaf))))))) leaf leaf leaf leaf leaf leaf leaf leaf)/work lines 1 self 0 => setup 2:39 levels",
+    "tree root(mid(leaf leaf leaf leaf leaf leaf leaf leaf leaf) mid(mid(mid(mid(mid(mid(mid(leaf))))))))/work lines 1 self 0 => setup 2:55 children",
     // The tree before the work.
-    Row {
-        document: "use msi_inclusive\ntree root(leaf leaf leaf leaf leaf leaf leaf leaf leaf)\nwork lines 0 self 1001 at 0 line 9 GetS 0 end\nhistory end\n",
-        status: Status::Setup,
-        answer: "setup 2:51 children\n",
-    },
+    "tree root(leaf leaf leaf leaf leaf leaf leaf leaf leaf)/work lines 0 self 1001 at 0 line 9 GetS 0 => setup 2:51 children",
     // The head of the work.
-    Row {
-        document: "use msi_inclusive\ntree root(leaf)\nwork lines 0 self 0 end\nhistory end\n",
-        status: Status::Setup,
-        answer: "setup 3:12 lines\n",
-    },
-    Row {
-        document: "use msi_inclusive\ntree root(leaf)\nwork lines 17 self 1001 end\nhistory end\n",
-        status: Status::Setup,
-        answer: "setup 3:12 lines\n",
-    },
-    Row {
-        document: "use msi_inclusive\ntree root(leaf)\nwork lines 4294967295 self 0 end\nhistory end\n",
-        status: Status::Setup,
-        answer: "setup 3:12 lines\n",
-    },
-    Row {
-        document: "use msi_inclusive\ntree root(leaf)\nwork lines 1 self 1001 end\nhistory end\n",
-        status: Status::Setup,
-        answer: "setup 3:19 self\n",
-    },
-    Row {
-        document: "use msi_inclusive\ntree root(leaf)\nwork lines 16 self 1001 at 0 line 16 GetS 0 end\nhistory end\n",
-        status: Status::Setup,
-        answer: "setup 3:20 self\n",
-    },
+    "tree root(leaf)/work lines 0 self 0 => setup 3:12 lines",
+    "tree root(leaf)/work lines 17 self 1001 => setup 3:12 lines",
+    "tree root(leaf)/work lines 4294967295 self 0 => setup 3:12 lines",
+    "tree root(leaf)/work lines 1 self 1001 => setup 3:19 self",
+    "tree root(leaf)/work lines 16 self 1001 at 0 line 16 GetS 0 => setup 3:20 self",
     // Entries.
-    Row {
-        document: "use msi_inclusive\ntree root(leaf)\nwork lines 1 self 0 at 0 line 0 Ld 0 end\nhistory end\n",
-        status: Status::Setup,
-        answer: "setup 3:24 object\n",
-    },
-    Row {
-        document: "use msi_inclusive\ntree root(leaf)\nwork lines 1 self 0 at 2 line 0 Ld 0 end\nhistory end\n",
-        status: Status::Setup,
-        answer: "setup 3:24 object\n",
-    },
-    Row {
-        document: "use msi_inclusive\ntree root(mid(leaf))\nwork lines 1 self 0 at 1 line 0 Ld 0 end\nhistory end\n",
-        status: Status::Setup,
-        answer: "setup 3:24 object\n",
-    },
-    Row {
-        document: "use msi_inclusive\ntree root(leaf)\nwork lines 1 self 0 at 0 line 1 GetS 0 end\nhistory end\n",
-        status: Status::Setup,
-        answer: "setup 3:24 object\n",
-    },
-    Row {
-        document: "use msi_inclusive\ntree root(leaf)\nwork lines 1 self 0 at 1 line 1 Ld 0 end\nhistory end\n",
-        status: Status::Setup,
-        answer: "setup 3:31 line\n",
-    },
-    Row {
-        document: "use msi_inclusive\ntree root(leaf)\nwork lines 1 self 0 at 1 line 1 GetS 0 end\nhistory end\n",
-        status: Status::Setup,
-        answer: "setup 3:31 line\n",
-    },
-    Row {
-        document: "use msi_inclusive\ntree root(leaf)\nwork lines 1 self 0 at 1 line 1 at 0 line 0 end\nhistory end\n",
-        status: Status::Setup,
-        answer: "setup 3:31 line\n",
-    },
-    Row {
-        document: "use msi_inclusive\ntree root(leaf)\nwork lines 1 self 0 at 1 line 0 Ld 0 GetS 0 end\nhistory end\n",
-        status: Status::Setup,
-        answer: "setup 3:38 request\n",
-    },
-    Row {
-        document: "use msi_inclusive\ntree root(leaf)\nwork lines 1 self 0 at 1 line 0 LdR 0 at 0 line 0 end\nhistory end\n",
-        status: Status::Setup,
-        answer: "setup 3:33 request\n",
-    },
-    Row {
-        document: "use msi_inclusive\ntree root(leaf)\nwork lines 1 self 0 at 1 line 0 Ld 0 at 1 line 1 GetS 0 end\nhistory end\n",
-        status: Status::Setup,
-        answer: "setup 3:48 line\n",
-    },
+    "tree root(leaf)/work lines 1 self 0 at 0 line 0 Ld 0 => setup 3:24 object",
+    "tree root(leaf)/work lines 1 self 0 at 2 line 0 Ld 0 => setup 3:24 object",
+    "tree root(mid(leaf))/work lines 1 self 0 at 1 line 0 Ld 0 => setup 3:24 object",
+    "tree root(leaf)/work lines 1 self 0 at 0 line 1 GetS 0 => setup 3:24 object",
+    "tree root(leaf)/work lines 1 self 0 at 1 line 1 Ld 0 => setup 3:31 line",
+    "tree root(leaf)/work lines 1 self 0 at 1 line 1 GetS 0 => setup 3:31 line",
+    "tree root(leaf)/work lines 1 self 0 at 1 line 1 at 0 line 0 => setup 3:31 line",
+    "tree root(leaf)/work lines 1 self 0 at 1 line 0 Ld 0 GetS 0 => setup 3:38 request",
+    "tree root(leaf)/work lines 1 self 0 at 1 line 0 LdR 0 at 0 line 0 => setup 3:33 request",
+    "tree root(leaf)/work lines 1 self 0 at 1 line 0 Ld 0 at 1 line 1 GetS 0 => setup 3:48 line",
     // The starts, last.
-    Row {
-        document: "use msi_inclusive\ntree root(mid(leaf leaf leaf leaf leaf) mid(leaf leaf leaf leaf leaf))\nwork lines 16 self 1000 end\nhistory end\n",
-        status: Status::Setup,
-        answer: "setup 3:1 starts\n",
-    },
-    Row {
-        document: "use msi_inclusive\ntree root(mid(leaf leaf leaf leaf leaf) mid(leaf leaf leaf leaf leaf))\nwork lines 16 self 1000 at 2 line 0 GetS 0 end\nhistory end\n",
-        status: Status::Setup,
-        answer: "setup 3:37 request\n",
-    },
-    Row {
-        document: "use msi_inclusive\ntree root(mid(leaf leaf leaf leaf leaf) mid(leaf leaf leaf leaf leaf))\nwork lines 16 self 1000 at 1 line 0 end\nhistory end\n",
-        status: Status::Setup,
-        answer: "setup 3:28 object\n",
-    },
-    Row {
-        document: "use msi_inclusive\ntree root(mid(leaf leaf leaf leaf leaf leaf leaf leaf) mid(leaf leaf leaf leaf leaf leaf leaf leaf) leaf)\nwork lines 10 self 1000 at 2 line 0 Ld 0 end\nhistory end\n",
-        status: Status::Setup,
-        answer: "setup 3:1 starts\n",
-    },
+    "tree root(mid(leaf leaf leaf leaf leaf) mid(leaf leaf leaf leaf leaf))/work lines 16 self 1000 => setup 3:1 starts",
+    "tree root(mid(leaf leaf leaf leaf leaf) mid(leaf leaf leaf leaf leaf))/work lines 16 self 1000 at 2 line 0 GetS 0 => setup 3:37 request",
+    "tree root(mid(leaf leaf leaf leaf leaf) mid(leaf leaf leaf leaf leaf))/work lines 16 self 1000 at 1 line 0 => setup 3:28 object",
+    "tree root(mid(leaf leaf leaf leaf leaf leaf leaf leaf) mid(leaf leaf leaf leaf leaf leaf leaf leaf) leaf)/work lines 10 self 1000 at 2 line 0 Ld 0 => setup 3:1 starts",
 ];
 
-fn rows() -> &'static [Row] {
+fn rows() -> &'static [&'static str] {
     &ROWS
 }
 
 #[test]
 fn setup_faults(rt: HostRuntime) -> Result<(), Fail> {
-    check_rows(&rt, rt.alloc(), rows())
+    for row in rows() {
+        let row = row_of(row)?;
+        let mut document = Vec::new(rt.alloc());
+        unfold(&mut document, "use msi_inclusive/")?;
+        unfold(&mut document, row.what)?;
+        unfold(&mut document, " end/history end/")?;
+        check_refused(&rt, rt.alloc(), document, Status::Setup, row.answer)?;
+    }
+    Ok(())
 }

@@ -2,7 +2,7 @@
 
 use crate::reading::protocol_of;
 use hem_print::protocol_text;
-use hem_shipped::{MESI_INCLUSIVE, MESI_NONINCLUSIVE, MSI_INCLUSIVE, MSI_NONINCLUSIVE, shipped};
+use hem_shipped::{MESI_INCLUSIVE, MESI_NONINCLUSIVE, MSI_INCLUSIVE, MSI_NONINCLUSIVE};
 use std::alloc::Global;
 use std::test::Fail;
 
@@ -48,19 +48,8 @@ end
 end
 ";
 
-static NAMES: [(&str, &str); 4] = [
-    ("msi_inclusive", MSI_INCLUSIVE),
-    ("mesi_inclusive", MESI_INCLUSIVE),
-    ("msi_noninclusive", MSI_NONINCLUSIVE),
-    ("mesi_noninclusive", MESI_NONINCLUSIVE),
-];
-
 fn texts() -> &'static [(&'static str, &'static str)] {
     &TEXTS
-}
-
-fn names() -> &'static [(&'static str, &'static str)] {
-    &NAMES
 }
 
 /// A protocol's text, read and printed.
@@ -74,9 +63,6 @@ fn protocols_print_back(rt: HostRuntime) -> Result<(), Fail> {
     for (text, want) in texts() {
         let printed = printed(rt.alloc(), text)?;
         assert_eq!(rt; printed.as_str(), *want);
-    }
-    for (name, text) in names() {
-        assert_eq!(rt; shipped(name.as_bytes()), Some(*text));
     }
     Ok(())
 }

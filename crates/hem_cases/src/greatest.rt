@@ -1,0 +1,148 @@
+//! One document at every limit at once: read, printed back, and replayed.
+
+use crate::call::answer;
+use crate::reading::protocol_of;
+use hem_cli::Status;
+use hem_print::protocol_text;
+use std::alloc::Global;
+use std::test::Fail;
+
+/// The front of a name of 32 bytes: one byte more tells what it names, and two digits which one.
+const LONG: &str = "abcdefghijklmnopqrstuvwxyz_ab";
+
+/// How many requests the leaf gets, and answers: its lists are longer than 256 messages.
+const REQUESTS: u32 = 300;
+
+/// Appends a name of 32 bytes, after a blank.
+fn name(alloc: Global, text: &mut String, sort: &str, number: u32) -> Result<(), Fail> {
+    let zero = if number < 10 { "0" } else { "" };
+    text.push_str(&format!(in alloc; " {LONG}{sort}{zero}{number}")?)?;
+    Ok(())
+}
+
+/// Appends the 64 messages, of which the first is a request of a processor and the second the answer.
+fn messages(alloc: Global, text: &mut String) -> Result<(), Fail> {
+    for number in 0..64 {
+        let class = match number {
+            0 => " ext_req\n",
+            1 => " ext_rsp\n",
+            _ => " up_req\n",
+        };
+        text.push_str("message")?;
+        name(alloc, text, "m", number)?;
+        text.push_str(class)?;
+    }
+    Ok(())
+}
+
+/// Appends three fields.
+fn fields(alloc: Global, text: &mut String) -> Result<(), Fail> {
+    for number in 0..3 {
+        text.push_str("field")?;
+        name(alloc, text, "f", number)?;
+        text.push_str(" init")?;
+        name(alloc, text, "s", 0)?;
+        text.push_str("\n")?;
+    }
+    Ok(())
+}
+
+/// Appends 16 conditions, which hold at the start.
+fn guard(alloc: Global, text: &mut String) -> Result<(), Fail> {
+    for number in 0..16 {
+        text.push_str(if number == 0 { " when" } else { "," })?;
+        name(alloc, text, "f", number % 3)?;
+        text.push_str(" in")?;
+        for status in 0..4 {
+            name(alloc, text, "s", status)?;
+        }
+    }
+    Ok(())
+}
+
+/// Appends the 64 rules of a kind, with names that no other kind has.
+fn rules(alloc: Global, text: &mut String, sort: &str) -> Result<(), Fail> {
+    for number in 0..64 {
+        text.push_str("rule")?;
+        name(alloc, text, sort, number)?;
+        text.push_str(" take me")?;
+        name(alloc, text, "m", 0)?;
+        text.push_str(" need up any down any")?;
+        guard(alloc, text)?;
+        text.push_str(" send me")?;
+        name(alloc, text, "m", 1)?;
+        text.push_str(" msg end\n")?;
+    }
+    Ok(())
+}
+
+/// Appends what a kind has.
+fn kind(alloc: Global, text: &mut String, word: &str, sort: &str) -> Result<(), Fail> {
+    text.push_str("kind ")?;
+    text.push_str(word)?;
+    text.push_str("\n")?;
+    fields(alloc, text)?;
+    if word != "leaf" {
+        text.push_str("dir init")?;
+        name(alloc, text, "s", 3)?;
+        text.push_str("\n")?;
+    }
+    rules(alloc, text, sort)?;
+    text.push_str("end\n")?;
+    Ok(())
+}
+
+/// The greatest protocol, in its canonical text.
+fn protocol(alloc: Global) -> Result<String, Fail> {
+    let mut text = String::from_str(alloc, "protocol")?;
+    name(alloc, &mut text, "p", 0)?;
+    text.push_str("\nstatus")?;
+    for number in 0..4 {
+        name(alloc, &mut text, "s", number)?;
+    }
+    text.push_str("\n")?;
+    messages(alloc, &mut text)?;
+    kind(alloc, &mut text, "root", "r")?;
+    kind(alloc, &mut text, "mid", "k")?;
+    kind(alloc, &mut text, "leaf", "l")?;
+    text.push_str("end\n")?;
+    Ok(text)
+}
+
+/// A tree of 64 objects on 8 levels, of which the root has 8 children; object 7 is a leaf on the last level.
+const TREE: &str = "tree root(mid(mid(mid(mid(mid(mid(leaf)))))) \
+mid(leaf leaf leaf leaf leaf leaf leaf) mid(leaf leaf leaf leaf leaf leaf leaf) mid(leaf leaf leaf leaf leaf leaf leaf) \
+mid(leaf leaf leaf leaf leaf leaf leaf) mid(leaf leaf leaf leaf leaf leaf leaf) mid(leaf leaf leaf leaf leaf leaf leaf) \
+mid(leaf leaf leaf leaf leaf leaf leaf))\n";
+
+/// Appends the requests of the leaf on the last line, and the history that answers them.
+fn requests(alloc: Global, text: &mut String) -> Result<(), Fail> {
+    text.push_str("work lines 16 self 0 at 7 line 15")?;
+    for _ in 0..REQUESTS {
+        name(alloc, text, "m", 0)?;
+        text.push_str(" 18446744073709551615")?;
+    }
+    text.push_str(" end\nhistory\n")?;
+    for number in 0..REQUESTS {
+        text.push_str("15 7")?;
+        name(alloc, text, "l", number % 64)?;
+        text.push_str("\n")?;
+    }
+    text.push_str("end\n")?;
+    Ok(())
+}
+
+#[test]
+fn greatest_document(rt: HostRuntime) -> Result<(), Fail> {
+    let alloc = rt.alloc();
+    let mut text = protocol(alloc)?;
+    let p = protocol_of(alloc, text.as_bytes())?;
+    let printed = protocol_text(alloc, &p)?;
+    assert_eq!(rt; printed.as_str(), text.as_str());
+    text.push_str(TREE)?;
+    requests(alloc, &mut text)?;
+    let (status, sink) = answer(&rt, alloc, text.into_bytes())?;
+    assert_eq!(rt; status, Status::Done);
+    assert!(rt; sink.bytes().starts_with(b"quiet\nstate\nline 0\n0 root "));
+    Ok(())
+}
