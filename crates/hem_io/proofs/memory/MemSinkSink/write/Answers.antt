@@ -1,5 +1,5 @@
 use Rattle.std.proofs.Common.{◌≡◌, ◌<◌, ap, ◌∙◌, arith, length}
-use Rattle.hem_io.specs.Memory.{failed_calls, failures}
+use Rattle.hem_io.specs.Memory.{failures}
 use Rattle.hem_io.proofs.Failing.{room_stays}
 use Rattle.hem_io.proofs.memory.MemSinkSink.write.Goals as goal
 
