@@ -6,6 +6,8 @@
     python3 bench/make.py entries N     N entries of work with one request each
     python3 bench/make.py protocol      a protocol of the greatest size
     python3 bench/make.py comments N    N bytes of comments in front of a small document
+    python3 bench/make.py signs N       N bytes, each a token: no document, and what is held of tokens is the most
+    python3 bench/make.py sends N       N firings of six bytes that each send to eight children, who never take
 """
 import sys
 
@@ -126,8 +128,31 @@ def comments(size):
     yield 'use msi_inclusive\ntree root(leaf)\nwork lines 1 self 0 end\nhistory end\n'
 
 
+def signs(size):
+    """Opening parentheses, the first of which is the fault."""
+    yield '(' * size
+
+
+SENDS = """protocol sends
+status I S
+message D down_req
+kind root dir init S
+rule r take none need up any down any send kids in S D 0 end
+end
+kind mid dir init I end
+kind leaf end
+end
+"""
+
+
+def sends(count):
+    """Firings of the root."""
+    yield SENDS + LEAVES + 'work lines 1 self 0 end\nhistory\n' + '0 0 r\n' * count + 'end\n'
+
+
 def main(words):
-    makers = {'one-step': one_step, 'rounds': rounds, 'entries': entries, 'comments': comments}
+    makers = {'one-step': one_step, 'rounds': rounds, 'entries': entries, 'comments': comments, 'signs': signs,
+              'sends': sends}
     if words == ['protocol']:
         pieces = greatest_protocol()
     elif len(words) == 2 and words[0] in makers and words[1].isdigit():

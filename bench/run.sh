@@ -14,3 +14,5 @@ for size in 100000 1000000; do measure rounds "$size"; done
 for size in 10000 100000; do measure entries "$size"; done
 measure protocol
 for size in 3300000 33000000; do measure comments "$size"; done
+measure signs 33554432
+measure sends 1000000

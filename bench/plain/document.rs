@@ -1,0 +1,214 @@
+//! Whole documents: their reader, and the rules on trees and works.
+
+use crate::protocol::{Class, Kind, MessageId, Protocol, RuleId};
+use crate::text::{Fault, TokenKind, Tokens, number};
+
+const MOST_OBJECTS: usize = 64;
+const MOST_CHILDREN: usize = 8;
+const MOST_LEVELS: usize = 8;
+const MOST_LINES: u32 = 16;
+const MOST_SELF: u32 = 1000;
+const MOST_REQUESTS: usize = 100_000;
+const MOST_STARTS: usize = 200_000;
+const MOST_FIRINGS: usize = 1_000_000;
+
+/// The first rule of trees and works that is broken: where, and which.
+pub struct SetupFault {
+    pub start: usize,
+    pub cause: &'static str,
+}
+
+pub struct Node {
+    pub kind: Kind,
+    pub parent: Option<usize>,
+    pub children: Vec<usize>,
+    level: usize,
+    start: usize,
+}
+
+#[derive(Clone, Copy)]
+pub struct Request {
+    pub message: MessageId,
+    pub value: u64,
+    start: usize,
+}
+
+pub struct Entry {
+    pub object: u32,
+    object_start: usize,
+    pub line: u32,
+    line_start: usize,
+    pub requests: Vec<Request>,
+}
+
+pub struct Work {
+    start: usize,
+    pub lines: u32,
+    lines_start: usize,
+    self_count: u32,
+    self_start: usize,
+    pub entries: Vec<Entry>,
+}
+
+pub struct Firing {
+    pub line: u32,
+    pub object: u32,
+    pub rule: RuleId,
+    pub from: Option<u32>,
+}
+
+pub struct Document {
+    pub protocol: Protocol,
+    pub nodes: Vec<Node>,
+    pub work: Work,
+    pub history: Vec<Firing>,
+}
+
+fn read_tree(tokens: &mut Tokens) -> Result<Vec<Node>, Fault> {
+    tokens.word("tree")?;
+    let start = tokens.word("root")?.start;
+    tokens.sign("(")?;
+    let mut nodes = vec![Node { kind: Kind::Root, parent: None, children: Vec::new(), level: 1, start }];
+    let mut open = vec![0];
+    while let Some(parent) = open.last().copied() {
+        let token = tokens.next();
+        if token.is_sign(")") && !nodes[parent].children.is_empty() {
+            open.pop();
+            continue;
+        }
+        let kind = match token {
+            token if token.is("mid") => Kind::Mid,
+            token if token.is("leaf") => Kind::Leaf,
+            token => return Err(token.expected()),
+        };
+        let here = nodes.len();
+        nodes[parent].children.push(here);
+        let level = open.len() + 1;
+        nodes.push(Node { kind, parent: Some(parent), children: Vec::new(), level, start: token.start });
+        if kind == Kind::Mid {
+            tokens.sign("(")?;
+            open.push(here);
+        }
+    }
+    Ok(nodes)
+}
+
+fn read_entry<'a>(tokens: &mut Tokens<'a>, protocol: &Protocol) -> Result<(Entry, bool), Fault> {
+    let (object, object_start) = tokens.number()?;
+    tokens.word("line")?;
+    let (line, line_start) = tokens.number()?;
+    let mut requests = Vec::new();
+    let another = loop {
+        let token = tokens.next();
+        if token.is("at") || token.is("end") {
+            break token.is("at");
+        }
+        if token.kind != TokenKind::Word {
+            return Err(token.expected());
+        }
+        let message = protocol.message(token.text).ok_or_else(|| token.unknown())?;
+        let number = tokens.next();
+        if number.kind != TokenKind::Number {
+            return Err(number.expected());
+        }
+        let value = number.value().ok_or_else(|| number.fault("too many"))?;
+        requests.push(Request { message, value, start: token.start });
+    };
+    Ok((Entry { object, object_start, line, line_start, requests }, another))
+}
+
+fn read_work(tokens: &mut Tokens, protocol: &Protocol) -> Result<Work, Fault> {
+    let start = tokens.word("work")?.start;
+    tokens.word("lines")?;
+    let (lines, lines_start) = tokens.number()?;
+    tokens.word("self")?;
+    let (self_count, self_start) = tokens.number()?;
+    let mut entries = Vec::new();
+    let mut another = tokens.one_of(&[("at", true), ("end", false)])?;
+    while another {
+        let (entry, more) = read_entry(tokens, protocol)?;
+        entries.push(entry);
+        another = more;
+    }
+    Ok(Work { start, lines, lines_start, self_count, self_start, entries })
+}
+
+fn read_history(tokens: &mut Tokens, protocol: &Protocol) -> Result<Vec<Firing>, Fault> {
+    tokens.word("history")?;
+    let mut firings = Vec::new();
+    let mut token = tokens.next();
+    while !token.is("end") {
+        if token.kind == TokenKind::Number && firings.len() >= MOST_FIRINGS {
+            return Err(token.fault("too many"));
+        }
+        let line = number(token)?;
+        let (object, _) = tokens.number()?;
+        let rule = tokens.used(|name| protocol.rule(name))?;
+        let mut from = None;
+        token = tokens.next();
+        if token.is("from") {
+            from = Some(tokens.number()?.0);
+            token = tokens.next();
+        }
+        firings.push(Firing { line, object, rule, from });
+    }
+    Ok(firings)
+}
+
+pub fn read_document(bytes: &[u8]) -> Result<Document, Fault> {
+    let mut tokens = Tokens::new(bytes);
+    let protocol = Protocol::read(&mut tokens)?;
+    let nodes = read_tree(&mut tokens)?;
+    let work = read_work(&mut tokens, &protocol)?;
+    let history = read_history(&mut tokens, &protocol)?;
+    let token = tokens.next();
+    if token.kind != TokenKind::End {
+        return Err(token.expected());
+    }
+    Ok(Document { protocol, nodes, work, history })
+}
+
+fn ensure(holds: bool, start: usize, cause: &'static str) -> Result<(), SetupFault> {
+    if holds { Ok(()) } else { Err(SetupFault { start, cause }) }
+}
+
+impl Document {
+    /// Tries the rules on trees and works, in order.
+    pub fn check(&self) -> Result<(), SetupFault> {
+        self.check_tree()?;
+        self.check_work()
+    }
+
+    fn check_tree(&self) -> Result<(), SetupFault> {
+        let mut children = vec![0; self.nodes.len()];
+        for (place, node) in self.nodes.iter().enumerate() {
+            ensure(place < MOST_OBJECTS, node.start, "objects")?;
+            if let Some(parent) = node.parent {
+                children[parent] += 1;
+                ensure(children[parent] <= MOST_CHILDREN, node.start, "children")?;
+            }
+            ensure(node.level <= MOST_LEVELS, node.start, "levels")?;
+        }
+        Ok(())
+    }
+
+    fn check_work(&self) -> Result<(), SetupFault> {
+        let work = &self.work;
+        ensure((1..=MOST_LINES).contains(&work.lines), work.lines_start, "lines")?;
+        ensure(work.self_count <= MOST_SELF, work.self_start, "self")?;
+        let mut count = 0;
+        for entry in &work.entries {
+            let node = self.nodes.get(entry.object as usize);
+            ensure(node.is_some_and(|node| node.kind == Kind::Leaf), entry.object_start, "object")?;
+            ensure(entry.line < work.lines, entry.line_start, "line")?;
+            for request in &entry.requests {
+                let class = self.protocol.class(request.message);
+                ensure(class == Class::ExtReq, request.start, "request")?;
+                count += 1;
+                ensure(count <= MOST_REQUESTS, request.start, "requests")?;
+            }
+        }
+        let starts = count + work.self_count as usize * self.nodes.len() * work.lines as usize;
+        ensure(starts <= MOST_STARTS, work.start, "starts")
+    }
+}

@@ -1,0 +1,148 @@
+//! The texts of answers.
+
+use crate::document::Document;
+use crate::protocol::{Assign, Atom, Class, Goal, Kind, Need, Protocol, Rule, Take, Value};
+use crate::system::{By, Lock, Message, Object, System};
+use std::fmt::Write;
+
+/// Writes to a string, which never fails.
+macro_rules! put {
+    ($text:expr, $($arguments:tt)*) => { let _ = write!($text, $($arguments)*); };
+}
+
+/// Whether a leaf's rule answers its processor at once, as the discipline wants it.
+fn answers_at_once(protocol: &Protocol, rule: &Rule) -> bool {
+    let Take::Me(taken) = rule.take else {
+        return false;
+    };
+    let Some(send) = rule.send else {
+        return false;
+    };
+    let fits = |value: &Value| !matches!(value, Value::Kept | Value::Rs);
+    let classes = (protocol.class(taken), protocol.class(send.message));
+    classes == (Class::ExtReq, Class::ExtRsp)
+        && matches!(send.goal, Goal::Me)
+        && rule.free.is_none()
+        && rule.lock.is_none()
+        && (rule.up, rule.down) == (Need::Free, Need::Free)
+        && rule.guard.iter().all(|atom| matches!(atom, Atom::Field(_, _)))
+        && rule.sets.iter().all(|set| match set {
+            Assign::Field(_, _) => true,
+            Assign::Val(value) => fits(value),
+            Assign::Me(_) | Assign::Targets(_) => false,
+        })
+        && fits(&send.value)
+}
+
+/// Whether each firing is a transaction of its own.
+fn is_one_step(protocol: &Protocol) -> bool {
+    protocol.part(Kind::Root).rules.is_empty()
+        && protocol.part(Kind::Mid).rules.is_empty()
+        && protocol.part(Kind::Leaf).rules.values().all(|rule| answers_at_once(protocol, rule))
+}
+
+fn put_blocks(text: &mut String, document: &Document) {
+    put!(text, "blocks {}\n", document.history.len());
+    for (number, firing) in document.history.iter().enumerate() {
+        let rule = &document.protocol.rule_names[firing.rule as usize];
+        put!(text, "block {number}\n{} {} {rule}", firing.line, firing.object);
+        if let Some(child) = firing.from {
+            put!(text, " from {child}");
+        }
+        text.push('\n');
+    }
+}
+
+fn put_message(text: &mut String, protocol: &Protocol, message: Message) {
+    put!(text, "{}:{}", protocol.messages[message.id as usize].0, message.value);
+}
+
+fn put_lock(text: &mut String, protocol: &Protocol, children: &[usize], lock: Option<Lock>, is_down: bool) {
+    let Some(lock) = lock else {
+        text.push_str("free");
+        return;
+    };
+    match lock.by {
+        By::Processor => text.push_str("cpu:"),
+        By::Child(place) => {
+            put!(text, "{}:", children[place]);
+        }
+        By::Parent => text.push_str("parent:"),
+        By::Own => text.push_str("self:"),
+    }
+    put_message(text, protocol, lock.request);
+    if is_down {
+        text.push(':');
+        for (k, place) in lock.awaited.iter().enumerate() {
+            put!(text, "{}{}", if k > 0 { "," } else { "" }, children[place]);
+        }
+    }
+}
+
+fn put_object(text: &mut String, document: &Document, place: usize, object: &Object) {
+    let protocol = &document.protocol;
+    let node = &document.nodes[place];
+    let kind = match node.kind {
+        Kind::Root => "root",
+        Kind::Mid => "mid",
+        Kind::Leaf => "leaf",
+    };
+    put!(text, "{place} {kind}");
+    for ((name, _), status) in protocol.part(node.kind).fields.iter().zip(&object.fields) {
+        put!(text, " {name}={}", protocol.statuses[*status as usize]);
+    }
+    put!(text, " val={} up=", object.val);
+    put_lock(text, protocol, &node.children, object.up, false);
+    text.push_str(" down=");
+    put_lock(text, protocol, &node.children, object.down, true);
+    if node.kind != Kind::Leaf {
+        text.push_str(" dir=");
+        for (k, status) in object.dir.iter().enumerate() {
+            put!(text, "{}{}", if k > 0 { "," } else { "" }, protocol.statuses[*status as usize]);
+        }
+    }
+    text.push('\n');
+    let lists = [
+        ("uprq", &object.up_requests),
+        ("uprs", &object.up_responses),
+        ("down", &object.from_parent),
+        ("req", &object.requests),
+        ("ans", &object.answers),
+    ];
+    for (name, list) in lists.into_iter().filter(|(_, list)| !list.is_empty()) {
+        put!(text, "{name} {place}");
+        for message in list {
+            text.push(' ');
+            put_message(text, protocol, *message);
+        }
+        text.push('\n');
+    }
+}
+
+fn put_state(text: &mut String, document: &Document, system: &System) {
+    text.push_str("state\n");
+    for (number, line) in system.lines.iter().enumerate() {
+        put!(text, "line {number}\n");
+        for (place, object) in line.iter().enumerate() {
+            put_object(text, document, place, object);
+        }
+    }
+    text.push_str("end\n");
+}
+
+/// The text where the history runs.
+pub fn done(document: &Document, system: &System) -> String {
+    let mut text = String::from(if system.is_quiet() { "quiet\n" } else { "open\n" });
+    if is_one_step(&document.protocol) {
+        put_blocks(&mut text, document);
+    }
+    put_state(&mut text, document, system);
+    text
+}
+
+/// The text where the firing at this place isn't possible.
+pub fn illegal(document: &Document, system: &System, place: usize) -> String {
+    let mut text = format!("illegal {place}\n");
+    put_state(&mut text, document, system);
+    text
+}
