@@ -4,9 +4,9 @@ use Rattle.std.specs.Prelude.{None, length}
 use Rattle.hem_tree.specs.declared.setup.SetupError.{SetupError}
 use Rattle.hem_tree.specs.declared.setup.SetupError.TheVariants.{Setup, OutOfMemory}
 use Rattle.hem_tree.specs.Tree.{Tree, IsLawful}
-use Rattle.hem_tree.specs.Limits.{IsTreeRefused}
+use Rattle.hem_tree.specs.Building.{IsTreeRefused}
 use Rattle.hem_work.specs.Work.{Work}
-use Rattle.hem_work.specs.Setup.{IsWorkRefused, first_fault, work_of}
+use Rattle.hem_work.specs.Building.{IsWorkRefused, first_fault, work_of}
 use Rattle.hem_cli.specs.Document.{Document, tree_in, work_in}
 use Rattle.hem_cli.specs.SetUp.{IsSetUp, IsNotSetUp}
 

@@ -5,7 +5,7 @@ use Rattle.hem_tree.specs.declared.setup.SetupFault.{SetupFault as Fault}
 use Rattle.hem_tree.specs.declared.setup.SetupCause.{SetupCause}
 use Rattle.hem_tree.specs.declared.raw.RawNode.{RawNode}
 use Rattle.hem_tree.specs.Tree.{Tree}
-use Rattle.hem_tree.specs.Limits.{IsTreeFault, IsFirstPassed, passed_at}
+use Rattle.hem_tree.specs.Building.{IsTreeFault, IsFirstPassed, passed_at}
 use Rattle.hem_tree.specs.Raw.{tree_of}
 use Rattle.hem_cli.specs.Document.{Document}
 use Rattle.hem_cli.specs.SetUp.{IsSetUp, IsSetupFault}

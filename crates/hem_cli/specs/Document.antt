@@ -9,7 +9,7 @@ use Rattle.hem_tree.specs.Raw.{tree_of}
 use Rattle.hem_tree.specs.Reading.{ReadsTree}
 use Rattle.hem_work.specs.declared.raw.RawWork.{RawWork}
 use Rattle.hem_work.specs.Work.{Work}
-use Rattle.hem_work.specs.Setup.{work_of}
+use Rattle.hem_work.specs.Building.{work_of}
 use Rattle.hem_work.specs.Reading.{ReadsWork}
 use Rattle.hem_system.specs.State.{State, start}
 use Rattle.hem_history.specs.Reading.{ReadsHistory}

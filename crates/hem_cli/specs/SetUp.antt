@@ -4,8 +4,8 @@ use Rattle.hem_tree.specs.declared.setup.SetupFault.{SetupFault as Fault}
 use Rattle.hem_tree.specs.declared.setup.SetupError.{SetupError}
 use Rattle.hem_tree.specs.declared.setup.SetupError.TheVariants.{Setup, OutOfMemory}
 use Rattle.hem_tree.specs.Tree.{IsLawful}
-use Rattle.hem_tree.specs.Limits.{IsTreeFault}
-use Rattle.hem_work.specs.Setup.{first_fault}
+use Rattle.hem_tree.specs.Building.{IsTreeFault}
+use Rattle.hem_work.specs.Building.{first_fault}
 use Rattle.hem_cli.specs.Document.{Document, tree_in}
 
 -- tree and work are lawful

@@ -17,7 +17,7 @@ use Rattle.hem_history.specs.declared.draft.Terminal.{Terminal}
 use Rattle.hem_history.specs.declared.draft.Terminal.TheVariants as the
 use Rattle.hem_history.specs.declared.draft.Item.{Item}
 use Rattle.hem_history.specs.declared.draft.Item.TheVariants as item
-use Rattle.hem_history.specs.declared.limits.TheConstants.{MOST_FIRINGS, MOST_NUMBER}
+use Rattle.hem_history.specs.Limits.{most_firings, most_number}
 use Rattle.hem_text.specs.Numbers.{number_of}
 
 -- what has been read of a history, over the rule names of a protocol: the firings, and the line and the object of the one that is being read
@@ -56,9 +56,9 @@ spells e _ t = is_number t.kind
 
 -- the limits: numbers have 32 bits, and the number of firings is tested at the line, with which a firing begins
 abbrev pub is_within : Read → Terminal → Lexeme → Bool
-is_within e the.Line t = nat_le (number_of t.text) MOST_NUMBER && nat_lt (length e.firings) MOST_FIRINGS
-is_within e the.Object t = nat_le (number_of t.text) MOST_NUMBER
-is_within e the.Child t = nat_le (number_of t.text) MOST_NUMBER
+is_within e the.Line t = nat_le (number_of t.text) most_number && nat_lt (length e.firings) most_firings
+is_within e the.Object t = nat_le (number_of t.text) most_number
+is_within e the.Child t = nat_le (number_of t.text) most_number
 is_within e _ t = true
 
 -- the firing of the first rule of that name, at the line and the object that were read

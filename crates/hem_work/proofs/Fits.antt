@@ -20,7 +20,8 @@ use Rattle.hem_tree.specs.Tree.{Tree, kind_of}
 use Rattle.hem_work.specs.declared.raw.RawEntry.{RawEntry}
 use Rattle.hem_work.specs.declared.raw.RawWork.{RawWork}
 use Rattle.hem_work.specs.Work.{requests_of}
-use Rattle.hem_work.specs.Setup.{most_lines, most_self, most_requests, messages_if, messages_for, requests_in, row_of, table_of, work_of, fault_if, is_leaf_kind, is_leaf, request_fault, requests_fault, heading_fault, entry_fault, entries_fault, counts_fault, starts_fault, first_fault}
+use Rattle.hem_work.specs.Limits.{most_lines, most_self, most_requests}
+use Rattle.hem_work.specs.Building.{messages_if, messages_for, requests_in, row_of, table_of, work_of, fault_if, is_leaf_kind, is_leaf, request_fault, requests_fault, heading_fault, entry_fault, entries_fault, counts_fault, starts_fault, first_fault}
 use Rattle.hem_work.specs.Lawful.{IsExternal, IsLawfulWork}
 use Rattle.hem_work.proofs.Tables.{get_map_below, table_length, row_length_of}
 use Rattle.hem_work.proofs.FirstFault.{neither, no_fault, not_false}

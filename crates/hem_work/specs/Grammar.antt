@@ -69,11 +69,11 @@ spells e _ t = is_number t.kind
 
 -- the limits on numbers: the value of a request has 64 bits, every other number 32
 abbrev pub is_within : Read → Terminal → Lexeme → Bool
-is_within e the.LinesNumber t = nat_le (number_of t.text) 4294967295
-is_within e the.SelfNumber t = nat_le (number_of t.text) 4294967295
-is_within e the.Object t = nat_le (number_of t.text) 4294967295
-is_within e the.Line t = nat_le (number_of t.text) 4294967295
-is_within e the.Value t = nat_le (number_of t.text) 18446744073709551615
+is_within e the.LinesNumber t = nat_le (number_of t.text) most_number
+is_within e the.SelfNumber t = nat_le (number_of t.text) most_number
+is_within e the.Object t = nat_le (number_of t.text) most_number
+is_within e the.Line t = nat_le (number_of t.text) most_number
+is_within e the.Value t = nat_le (number_of t.text) most_value
 is_within e _ t = true
 
 -- the last entry with one more request

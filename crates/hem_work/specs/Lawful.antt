@@ -6,7 +6,7 @@ use Rattle.hem_syntax.specs.Protocol.{Protocol, class_of}
 use Rattle.hem_syntax.specs.declared.rule.Class.TheVariants.{ExtReq}
 use Rattle.hem_tree.specs.Tree.{Tree, kind_of}
 use Rattle.hem_work.specs.Work.{Work, requests_of}
-use Rattle.hem_work.specs.Setup.{most_lines, most_self}
+use Rattle.hem_work.specs.Limits.{most_lines, most_self}
 
 -- a message is a request of a processor
 abbrev pub IsExternal : Protocol → Message → Type 0

@@ -2,7 +2,7 @@
 
 ghost use Rattle.std.specs.Prelude.{◌≡◌, ◌+◌, ◌<◌, ◌≤◌, length, IfOk, IfNone};
 ghost use Rattle.hem_syntax.specs.Protocol.{has_class, is_ext_req};
-ghost use Rattle.hem_work.specs.Setup.{fault_if, fault_in, is_leaf, is_leaf_kind, request_count, starts_of, request_fault, requests_fault, heading_fault, entry_fault, entries_fault, counts_fault, starts_fault, first_fault};
+ghost use Rattle.hem_work.specs.Building.{fault_if, fault_in, is_leaf, is_leaf_kind, request_count, starts_of, request_fault, requests_fault, heading_fault, entry_fault, entries_fault, counts_fault, starts_fault, first_fault};
 
 use crate::limits::{MOST_LINES, MOST_REQUESTS, MOST_SELF, MOST_STARTS};
 use crate::raw::{RawEntry, RawWork};

@@ -14,23 +14,10 @@ use Rattle.hem_syntax.specs.Protocol.{has_class, is_ext_req}
 use Rattle.hem_tree.specs.Tree.{Tree, below, kind_of}
 use Rattle.hem_tree.specs.declared.setup.SetupError.{SetupError}
 use Rattle.hem_tree.specs.declared.setup.SetupError.TheVariants.{Setup, OutOfMemory}
-use Rattle.hem_work.specs.declared.limits.TheConstants.{MOST_LINES, MOST_SELF, MOST_REQUESTS, MOST_STARTS}
+use Rattle.hem_work.specs.Limits.{most_lines, most_self, most_requests, most_starts}
 use Rattle.hem_work.specs.declared.raw.RawWork.{RawWork}
 use Rattle.hem_work.specs.declared.raw.RawEntry.{RawEntry}
 use Rattle.hem_work.specs.Work.{Work}
-
--- the limits on a work
-abbrev pub most_lines : ℕ
-most_lines = MOST_LINES
-
-abbrev pub most_self : ℕ
-most_self = MOST_SELF
-
-abbrev pub most_requests : ℕ
-most_requests = MOST_REQUESTS
-
-abbrev pub most_starts : ℕ
-most_starts = MOST_STARTS
 
 -- the messages of an entry, where it is one of this object and line
 abbrev pub messages_if : Bool → RawEntry → List Message
