@@ -8,10 +8,10 @@ use Rattle.hem_text.specs.declared.symbol.Symbol.TheVariants.{One, Maybe, Many}
 use Rattle.hem_text.specs.declared.symbol.Stands.{Stands}
 use Rattle.hem_text.specs.declared.symbol.Stands.TheVariants as stand
 use Rattle.hem_base.specs.declared.words.Reserved.TheVariants as word
-use Rattle.hem_text.specs.Grammars.{Grammar, Lexeme}
+use Rattle.hem_text.specs.Lexemes.{Lexeme}
+use Rattle.hem_text.specs.Grammars.{Grammar}
 use Rattle.hem_syntax.specs.Protocol.{Text, Protocol}
-use Rattle.hem_text.specs.Spelling.{is_name}
-use Rattle.hem_grammar.specs.Draft.{place_in}
+use Rattle.hem_syntax.specs.Names.{place_in}
 use Rattle.hem_text.specs.Spelling.{is_word, is_number, is_the_word}
 use Rattle.hem_history.specs.declared.draft.Terminal.{Terminal}
 use Rattle.hem_history.specs.declared.draft.Terminal.TheVariants as the
@@ -48,11 +48,11 @@ stands _ = stand.Reserved
 
 -- how a token is spelled: a rule is named as a rule of any kind
 abbrev pub spells : Read → Terminal → Lexeme → Bool
-spells e the.History t = is_the_word word.History t.kind t.text
-spells e the.Rule t = is_word t.kind && is_some (place_in e.rule_names t.text)
-spells e the.From t = is_the_word word.From t.kind t.text
-spells e the.End t = is_the_word word.End t.kind t.text
-spells e _ t = is_number t.kind
+spells e the.History t = is_the_word word.History t
+spells e the.Rule t = is_word t && is_some (place_in e.rule_names t.text)
+spells e the.From t = is_the_word word.From t
+spells e the.End t = is_the_word word.End t
+spells e _ t = is_number t
 
 -- the limits: numbers have 32 bits, and the number of firings is tested at the line, with which a firing begins
 abbrev pub is_within : Read → Terminal → Lexeme → Bool
@@ -85,7 +85,6 @@ grammar =
       firsts = firsts;
       follows = follows;
       stands = stands;
-      is_name = λ t. is_name t.kind t.text;
       spells = spells;
       is_within = is_within;
       is_fresh = λ e x t. true;

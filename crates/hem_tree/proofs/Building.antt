@@ -16,7 +16,7 @@ use Rattle.hem_tree.specs.Building.{elders_of, limit_passed, passed_at, IsFirstP
 use Rattle.hem_tree.specs.Objects.{number_of, number_at, elders_in, AreParents, node_of, described, IsObjectOf, IsMade}
 use Rattle.hem_tree.proofs.Lawful.{get_tree, one_if, count_more, count_same, get_within, length_tree, parent_at, parent_past, level_is, level_of_node}
 use Rattle.hem_tree.proofs.Refused.{within_at, elders_at, elders_none, lawful, unlawful}
-use Rattle.hem_tree.proofs.Reading.{get_push}
+use Rattle.hem_tree.proofs.TreesOfTokens.{get_push}
 
 -- whether an object is a child of high
 abbrev is_under : List (Option ObjectId) → ℕ → ℕ → Bool

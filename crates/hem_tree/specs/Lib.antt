@@ -2,6 +2,6 @@ pub mod Limits
 pub mod Tree
 pub mod Grammar
 pub mod Raw
-pub mod Reading
+pub mod TreeReading
 pub mod Building
 pub mod Objects

@@ -1,4 +1,3 @@
-pub mod Reading
 pub mod Tables
 pub mod FirstFault
 pub mod Totals

@@ -1,6 +1,6 @@
 pub mod Limits
 pub mod Grammar
-pub mod Reading
+pub mod WorkReading
 pub mod Work
 pub mod Building
 pub mod Entries

@@ -11,3 +11,9 @@ pub const MOST_REQUESTS: usize = 100_000;
 
 /// How many transactions a work may start: one for each request, and one for each firing of a self rule.
 pub const MOST_STARTS: u64 = 200_000;
+
+/// The greatest number of a line or an object, and the greatest counts that a text may give.
+pub const MOST_NUMBER: u64 = 4_294_967_295;
+
+/// The greatest value of a request.
+pub const MOST_VALUE: u64 = 18_446_744_073_709_551_615;

@@ -1,14 +1,14 @@
 -- The nodes that are read are a tree of the grammar.
-use Rattle.std.proofs.Common.{◌≡◌, ◌≢◌, ℕ, zero, suc, ◌+◌, ◌-◌, ◌<◌, ◌≤◌, List, [], ◌∷◌, ◌++◌, length, take, drop, refl, sym, ap, ◌∙◌, subst, arith, Some, ⊎_elim, inl, inr, ◌⊎◌}
-use Rattle.std.specs.Prelude.{map, slice_get}
-use Rattle.std.proofs.lemmas.List.{length_push, length-map, length-drop}
+use Rattle.std.proofs.Common.{◌≡◌, ◌≢◌, ℕ, zero, suc, ◌+◌, ◌<◌, ◌≤◌, List, [], ◌∷◌, ◌++◌, length, take, refl, sym, ap, ◌∙◌, subst, arith, Some, ⊎_elim, inl, inr, ◌⊎◌}
+use Rattle.std.specs.Prelude.{slice_get}
+use Rattle.std.proofs.lemmas.List.{length_push}
 use Rattle.hem_base.specs.declared.ids.Kind.{Kind}
 use Rattle.hem_base.specs.declared.ids.Kind.TheVariants.{Root, Mid, Leaf}
-use Rattle.hem_text.specs.declared.text.Token.{Token}
 use Rattle.hem_text.specs.declared.symbol.Symbol.{Symbol}
 use Rattle.hem_text.specs.declared.symbol.Symbol.TheVariants.{One, Item as One_of, Many}
-use Rattle.hem_text.specs.Grammars.{Lexeme, State, Way, full, ways, state, Reads, lexeme_of}
-use Rattle.hem_text.specs.Faults.{ReadsOnly}
+use Rattle.hem_text.specs.Lexemes.{Lexeme}
+use Rattle.hem_text.specs.Grammars.{State, Way, full, ways, state, Reads}
+use Rattle.hem_text.specs.Parts.{IsPart}
 use Rattle.hem_tree.specs.declared.raw.RawNode.{RawNode}
 use Rattle.hem_tree.specs.declared.draft.Terminal.{Terminal}
 use Rattle.hem_tree.specs.declared.draft.Terminal.TheVariants as the
@@ -17,7 +17,7 @@ use Rattle.hem_tree.specs.declared.draft.Item.TheVariants as item
 use Rattle.hem_tree.specs.declared.draft.TreeDraft.{TreeDraft}
 use Rattle.hem_tree.specs.Grammar.{grammar, start, nothing, nest, after}
 use Rattle.hem_tree.specs.Raw.{IsRawTree, IsLevelAfter}
-use Rattle.hem_tree.specs.Reading.{ReadsTree}
+use Rattle.hem_tree.specs.TreeReading.{ReadsTree}
 use Rattle.hem_tree.proofs.Kept.{Each, run_keeps}
 
 -- nodes that begin a tree, of which the last has this kind and this level
@@ -140,21 +140,13 @@ reads_whole ts n e reads = whole (state e []) refl (run_keeps full grammar Fits 
 abbrev one_level : List RawNode → ℕ → TreeDraft
 one_level nodes level = record { nodes = nodes; level = level }
 
--- what the reader answers
-pub reads_tree : (bytes : List ℕ) (tokens : List Token) (at end : ℕ) (begin e : TreeDraft) (stack : List (Symbol Terminal Item)) → begin ≡ nothing → stack ≡ start → at ≤ length tokens → at ≤ end
-    → Reads grammar (state begin stack) (map (lexeme_of bytes) (drop at tokens)) (end - at) e
-    → ReadsOnly grammar (state begin stack) (map (lexeme_of bytes) (drop at tokens)) (end - at) e
-    → ReadsTree bytes tokens at end e.nodes
-reads_tree bytes tokens at end begin e stack fresh all begins later reads only =
-    let lexemes = map (lexeme_of bytes) (drop at tokens) in
-    let same_start : state begin stack ≡ state nothing start = cc in
-    let read = subst (λ s. Reads grammar s lexemes (end - at) e) same_start reads in
-    let whole = reads_whole lexemes (end - at) e read in
-    let same : e ≡ one_level e.nodes 1 = ap (one_level e.nodes) whole.level in
+-- a part of the grammar is a tree
+pub reads_tree : (ts rest : List Lexeme) (begin e : TreeDraft) (stack : List (Symbol Terminal Item)) → begin ≡ nothing → stack ≡ start → IsPart grammar (state begin stack) ts rest e → ReadsTree ts rest e.nodes
+reads_tree ts rest begin e stack fresh all part =
+    let same : state begin stack ≡ state nothing start = cc in
+    let here = subst (λ s. IsPart grammar s ts rest e) same part in
+    let whole = reads_whole ts here.count e here.reads in
     record {
-      later = later;
-      inside = omega (arith, read.within, length-map (drop at tokens) (lexeme_of bytes), length-drop at tokens, begins);
-      reads = subst (λ v. Reads grammar (state nothing start) lexemes (end - at) v) same read;
-      only = subst (λ v. ReadsOnly grammar (state nothing start) lexemes (end - at) v) same (subst (λ s. ReadsOnly grammar s lexemes (end - at) e) same_start only);
+      part = subst (λ v. IsPart grammar (state nothing start) ts rest v) (ap (one_level e.nodes) whole.level) here;
       tree = whole.tree;
     }
