@@ -2,3 +2,5 @@ mod Grows
 pub mod Reversed
 pub mod Ways
 pub mod Runs
+pub mod Cut
+pub mod FirstFaults

@@ -1,5 +1,5 @@
 -- What sort of token a token is.
-use Rattle.std.specs.Prelude.{ℕ, ◌==◌, ◌&&◌, Bool, true, false, not, List}
+use Rattle.std.specs.Prelude.{◌==◌, ◌&&◌, Bool, true, false, not}
 use Rattle.std.specs.List.{list_all}
 use Rattle.std.specs.Str.{bytes_eq}
 use Rattle.hem_base.specs.Words.{is_reserved, is_word_text, word_bytes, sign_bytes}

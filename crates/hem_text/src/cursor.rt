@@ -4,9 +4,9 @@ ghost use Rattle.std.specs.Prelude.{◌≡◌, ◌<◌, ◌↔◌, [], length, d
 ghost use Rattle.hem_text.specs.Unread.{unread_of};
 ghost use Rattle.hem_text.specs.Faults.{place_at};
 
+use crate::Place;
 use crate::lexeme::Lexeme;
 use crate::piece::{piece_at, place_after};
-use crate::Place;
 use std::marker::Model;
 
 /// A place in a text from which readers go on, seen as the tokens that are left, and the place of the end of the text. It

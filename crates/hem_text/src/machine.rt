@@ -59,10 +59,7 @@ fn first_of<L: Language>(
 ) -> Option<L::Terminal>
     ensures { result ≡ find (λ x. L.grammar.spells env.now x token.now) terminals.now }
 {
-    terminals
-        .iter()
-        .copied()
-        .find(|x| env.spells(*x, token))
+    terminals.iter().copied().find(|x| env.spells(*x, token))
 }
 
 /// The token of the symbol that this one is.
@@ -74,13 +71,7 @@ fn head_of<L: Language>(
     ensures { result ≡ find (λ x. L.grammar.spells env.now x token.now) (heads L.grammar symbol) }
 {
     match symbol {
-        Symbol::One(x) => {
-            if env.spells(x, token) {
-                Some(x)
-            } else {
-                None
-            }
-        }
+        Symbol::One(x) => { if env.spells(x, token) { Some(x) } else { None } }
         Symbol::Item(i) | Symbol::Maybe(i) | Symbol::Many(i) => {
             first_of(env, L::firsts(i), token)
         }
@@ -193,10 +184,7 @@ fn only_plain<L: Language>(stack: &Stack<L::Terminal, L::Item>) -> bool
 }
 
 /// Why a token that no way takes can't stand.
-fn cause_of<L: Language>(
-    stack: &Stack<L::Terminal, L::Item>,
-    token: &Lexeme<'_>,
-) -> Cause
+fn cause_of<L: Language>(stack: &Stack<L::Terminal, L::Item>, token: &Lexeme<'_>) -> Cause
     ensures { result ≡ lost_cause L.grammar stack.now token.now }
 {
     if token.is_name() && some_used::<L>(stack) && only_plain::<L>(stack) {
