@@ -41,7 +41,7 @@ sum_le f g (x ∷ xs) less =
 
 sum_zero : (xs : List ℕ) → sum_by (λ k. 0) xs ≡ 0
 sum_zero [] = refl
-sum_zero (x ∷ xs) = sum_by-cons (λ k. 0) x xs ∙ sum_zero xs
+sum_zero (x ∷ xs) = let here = sum_by-cons (λ k. 0) x xs in let rest = sum_zero xs in omega (arith, here, rest)
 
 -- m at one place and nothing elsewhere
 abbrev spot : ℕ → ℕ → ℕ → ℕ
@@ -49,25 +49,19 @@ spot i m k = cond (eqb i k) m 0
 
 none_before : (i m n : ℕ) → n ≤ i → sum_by (spot i m) (below n) ≡ 0
 none_before i m zero le = refl
-none_before i m (suc n) le = sum_by_push (spot i m) (below n) n ∙ go (eqb i n) refl
+none_before i m (suc n) le = sum_by_push (spot i m) (below n) n ∙ go (none_before i m n (omega arith)) (eqb i n) refl
   where
-    before : sum_by (spot i m) (below n) ≡ 0
-    before = none_before i m n (omega arith)
-
-    go : (b : Bool) → eqb i n ≡ b → sum_by (spot i m) (below n) + cond b m 0 ≡ 0
-    go true h = absurd (let same = eqb-true i n h in omega (arith, same, le))
-    go false h = omega (arith, before)
+    go : sum_by (spot i m) (below n) ≡ 0 → (b : Bool) → eqb i n ≡ b → sum_by (spot i m) (below n) + cond b m 0 ≡ 0
+    go before true h = absurd (let same = eqb-true i n h in omega (arith, same, le))
+    go before false h = omega (arith, before)
 
 sum_spot : (i m n : ℕ) → sum_by (spot i m) (below n) ≤ m
 sum_spot i m zero = omega arith
-sum_spot i m (suc n) = subst (λ s. s ≤ m) (sym (sum_by_push (spot i m) (below n) n)) (go (eqb i n) refl)
+sum_spot i m (suc n) = subst (λ s. s ≤ m) (sym (sum_by_push (spot i m) (below n) n)) (go (sum_spot i m n) (eqb i n) refl)
   where
-    before : sum_by (spot i m) (below n) ≤ m
-    before = sum_spot i m n
-
-    go : (b : Bool) → eqb i n ≡ b → sum_by (spot i m) (below n) + cond b m 0 ≤ m
-    go true h = let same = eqb-true i n h in let none = none_before i m n (omega (arith, same)) in omega (arith, none)
-    go false h = omega (arith, before)
+    go : sum_by (spot i m) (below n) ≤ m → (b : Bool) → eqb i n ≡ b → sum_by (spot i m) (below n) + cond b m 0 ≤ m
+    go before true h = let same = eqb-true i n h in let none = none_before i m n (omega (arith, same)) in omega (arith, none)
+    go before false h = omega (arith, before)
 
 -- how many requests an entry has at a line and an object
 abbrev own : RawEntry → ℕ → ℕ → ℕ
