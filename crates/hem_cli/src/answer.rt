@@ -6,21 +6,17 @@ ghost use Rattle.hem_base.specs.Streams.{Rose, grown};
 ghost use Rattle.hem_cli.specs.Answer.{IsGood, Answer, most_bytes, IsRepliedTo};
 ghost use Rattle.hem_cli.specs.Outcome.{Says, IsAfterReading};
 ghost use Rattle.hem_cli.specs.declared.status.Status.{Status};
-ghost use Rattle.hem_cli.specs.Document.{tree_in, work_in};
-ghost use Rattle.hem_cli.specs.SetUp.{IsSetUp};
+ghost use Rattle.hem_document.specs.SetUp.{tree_in, work_in, IsSetUp};
 
 use crate::Status;
-use crate::document::Document;
 use crate::fault_texts::{fault_text, setup_text};
 use crate::grouping::{grouped_text, stopped_text};
-use crate::reading::read_document;
-use crate::setting_up::set_up;
 use hem_base::{OutOfMemory, Source};
+use hem_document::{Document, Lawful, read_document, set_up};
 use hem_io::{ReadEnd, read_all};
 use hem_system::{ReplayFault, replay};
 use hem_text::TextError;
-use hem_tree::{SetupError, Tree};
-use hem_work::Work;
+use hem_tree::SetupError;
 use std::alloc::Global;
 
 /// The most bytes of input.
@@ -73,17 +69,17 @@ fn reply_with(status: Status, text: String) -> Reply
 fn replayed(
     alloc: Global,
     document: &Document,
-    tree: &Tree,
-    work: &Work,
+    lawful: &Lawful,
 ) -> Result<Reply, OutOfMemory>
-    requires tree { tree.now ≡ tree_in document.now }
-    requires work { work.now ≡ work_in document.now }
-    requires lawful { IsSetUp document.now }
+    requires tree { lawful.now.tree ≡ tree_in document.now.setup }
+    requires work { lawful.now.work ≡ work_in document.now.setup }
+    requires lawful { IsSetUp document.now.setup }
     ensures { IfOk result (λ r. IsRepliedTo document.now r.status r.text.items) }
 {
-    let p = &document.protocol;
+    let p = &document.setup.protocol;
     let history = document.history.as_slice();
-    match replay(alloc, p, tree, work, history) {
+    let tree = &lawful.tree;
+    match replay(alloc, p, tree, &lawful.work, history) {
         Ok(end) => {
             let text = grouped_text(alloc, p, tree, history, &end)?;
             Ok(reply_with(Status::Done, text))
@@ -100,8 +96,8 @@ fn replayed(
 fn grouped(alloc: Global, document: &Document) -> Result<Reply, OutOfMemory>
     ensures { IfOk result (λ r. IsRepliedTo document.now r.status r.text.items) }
 {
-    match set_up(alloc, document) {
-        Ok((tree, work)) => replayed(alloc, document, &tree, &work),
+    match set_up(alloc, &document.setup) {
+        Ok(lawful) => replayed(alloc, document, &lawful),
         Err(SetupError::Setup(fault)) => {
             let text = setup_text(alloc, fault)?;
             Ok(reply_with(Status::Setup, text))

@@ -166,12 +166,12 @@ counts raw p tree h =
     record {
       requests = both.0;
       each = λ line o. le_trans
-      (length (requests_of (work_of raw (length tree)) line o))
-      (requests_on (get_or (table_of raw.entries raw.lines.0 (length tree)) line []))
-      (requests_in_all (work_of raw (length tree)))
-      most_requests
-      (one_of_all (λ (l : List Message). length l) (get_or (table_of raw.entries raw.lines.0 (length tree)) line []) o [] refl)
-      (one_of_all requests_on (table_of raw.entries raw.lines.0 (length tree)) line [] refl)
-      both.0;
+          (length (requests_of (work_of raw (length tree)) line o))
+          (requests_on (get_or (table_of raw.entries raw.lines.0 (length tree)) line []))
+          (requests_in_all (work_of raw (length tree)))
+          most_requests
+          (one_of_all (λ (l : List Message). length l) (get_or (table_of raw.entries raw.lines.0 (length tree)) line []) o [] refl)
+          (one_of_all requests_on (table_of raw.entries raw.lines.0 (length tree)) line [] refl)
+          both.0;
       starts = both.1;
     }

@@ -11,6 +11,5 @@ mod work;
 
 pub use draft::{Item, Terminal, WorkDraft};
 pub use laws::faultless_works_are_lawful;
-pub use limits::{MOST_LINES, MOST_REQUESTS, MOST_SELF, MOST_STARTS};
 pub use raw::{RawEntry, RawWork, read_work};
 pub use work::Work;
