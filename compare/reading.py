@@ -68,12 +68,13 @@ def within(digits, bound):
 class Choice:
     """One kind of token that may stand at a place.
 
-    `past` says that it passes a limit, `taken` are the texts that would be repetitions.
+    `past` says which limit it passes, if it does, `taken` are the texts that would be repetitions,
+    and `what` says in words what it names.
     """
 
-    def __init__(self, kind, names=(), bound=None, past=False, taken=()):
+    def __init__(self, kind, names=(), bound=None, past='', taken=(), what=''):
         self.kind, self.names, self.bound = kind, names, bound
-        self.past, self.taken = past, taken
+        self.past, self.taken, self.what = past, taken, what
 
     def fits(self, token, limits, fresh):
         """Whether the token may stand here, with or without the limits and the rules on repetition."""
@@ -108,28 +109,34 @@ def words(*names, **more):
     return Choice('reserved', names, **more)
 
 
-def used(names, **more):
-    return Choice('used', names, **more)
+def used(names, what, **more):
+    return Choice('used', names, what=what, **more)
 
 
-def new(taken, **more):
-    return Choice('new', taken=taken, **more)
+def new(taken, what, **more):
+    return Choice('new', taken=taken, what=what, **more)
 
 
 def signs(*names):
     return Choice('sign', names)
 
 
-def number(bound=GREATEST_NUMBER, **more):
-    return Choice('number', bound=bound, **more)
+def number(what, bound=GREATEST_NUMBER, **more):
+    return Choice('number', bound=bound, what=what, **more)
+
+
+def past(items, limit, what):
+    """The sentence on the limit that one more item passes, or nothing."""
+    return what % limit if len(items) >= limit else ''
 
 
 class Fault(Exception):
-    """A text fault at an offset, or a fault of the setup."""
+    """A text fault at an offset, with the token there and what could have stood, or a fault of the setup."""
 
-    def __init__(self, job, start, cause):
+    def __init__(self, job, start, cause, token=None, choices=()):
         super().__init__(job, start, cause)
         self.job, self.start, self.cause = job, start, cause
+        self.token, self.choices = token, choices
 
 
 def cause_of(token, choices):
@@ -172,7 +179,7 @@ class Reader:
         token = next(self.source)
         self.start = token.start
         if not any(choice.fits(token, True, True) for choice in choices):
-            raise Fault('text', token.start, cause_of(token, choices))
+            raise Fault('text', token.start, cause_of(token, choices), token, choices)
         return token.text
 
     def word(self, *names):
@@ -180,21 +187,22 @@ class Reader:
 
     def protocol(self):
         if self.word('protocol', 'use') == 'use':
-            name = self.step(used(SHIPPED))
+            name = self.step(used(SHIPPED, 'shipped protocol'))
             return Reader(SHIPPED[name]).protocol()
-        name = self.step(new(()))
+        name = self.step(new((), 'protocol'))
         self.word('status')
         statuses, messages = [], {}
-        statuses.append(self.step(new(statuses)))
-        statuses.append(self.step(new(statuses)))
-        then = self.step(new(statuses, past=len(statuses) >= STATUS_LIMIT), words('message', 'kind'))
+        statuses.append(self.step(new(statuses, 'status')))
+        then = self.step(new(statuses, 'status'))
         while then not in RESERVED:
             statuses.append(then)
-            then = self.step(new(statuses, past=len(statuses) >= STATUS_LIMIT), words('message', 'kind'))
+            full = past(statuses, STATUS_LIMIT, 'a protocol has at most %d statuses')
+            then = self.step(new(statuses, 'status', past=full), words('message', 'kind'))
         while then == 'message':
-            message = self.step(new(list(statuses) + list(messages)))
+            message = self.step(new(list(statuses) + list(messages), 'message'))
             messages[message] = self.word(*CLASSES)
-            then = self.step(words('message', past=len(messages) >= MESSAGE_LIMIT), words('kind'))
+            full = past(messages, MESSAGE_LIMIT, 'a protocol has at most %d messages')
+            then = self.step(words('message', past=full), words('kind'))
         protocol = Protocol(name, statuses, messages, {})
         self.word('root')
         protocol.kinds['root'] = self.kind(protocol, True)
@@ -212,26 +220,28 @@ class Reader:
         after = ('dir',) if has_directory else ('rule', 'end')
         then = self.step(words('field'), words(*after))
         while then == 'field':
-            name = self.step(new(part.fields))
+            name = self.step(new(part.fields, 'field'))
             self.word('init')
-            part.fields[name] = self.step(used(protocol.statuses))
-            then = self.step(words('field', past=len(part.fields) >= FIELD_LIMIT), words(*after))
+            part.fields[name] = self.step(used(protocol.statuses, 'status'))
+            full = past(part.fields, FIELD_LIMIT, 'a kind has at most %d fields')
+            then = self.step(words('field', past=full), words(*after))
         if has_directory:
             self.word('init')
-            part.dir = self.step(used(protocol.statuses))
+            part.dir = self.step(used(protocol.statuses, 'status'))
             then = self.word('rule', 'end')
         while then == 'rule':
             rule = self.rule(protocol, part)
             part.rules[rule.name] = rule
-            then = self.step(words('rule', past=len(part.rules) >= RULE_LIMIT), words('end'))
+            full = past(part.rules, RULE_LIMIT, 'a kind has at most %d rules')
+            then = self.step(words('rule', past=full), words('end'))
         return part
 
     def rule(self, protocol, part):
-        name = self.step(new(part.rules))
+        name = self.step(new(part.rules, 'rule'))
         self.word('take')
         take = (self.word('me', 'parent', 'kids', 'none'), None)
         if take[0] != 'none':
-            take = (take[0], self.step(used(protocol.messages)))
+            take = (take[0], self.step(used(protocol.messages, 'message')))
         self.word('need')
         self.word('up')
         up = self.word('any', 'free', 'child', 'parent', 'self')
@@ -259,10 +269,10 @@ class Reader:
         """Reads the atoms and answers the word after them."""
         after = (signs(','), words('set', 'free', 'lock', 'send', 'end'))
         while True:
-            past = len(guard) >= ATOM_LIMIT
-            first = self.step(used(part.fields, past=past), words('me', 'kids', 'others', 'asked', past=past))
+            full = past(guard, ATOM_LIMIT, 'a guard has at most %d conditions')
+            first = self.step(used(part.fields, 'field', past=full), words('me', 'kids', 'others', 'asked', past=full))
             if first == 'asked':
-                guard.append(('asked', None, self.step(used(protocol.messages))))
+                guard.append(('asked', None, self.step(used(protocol.messages, 'message'))))
                 then = self.step(*after)
             else:
                 if first in ('kids', 'others'):
@@ -277,9 +287,9 @@ class Reader:
 
     def statuses(self, protocol, *after):
         """Reads a set of statuses and what comes after it."""
-        chosen = [self.step(used(protocol.statuses))]
+        chosen = [self.step(used(protocol.statuses, 'status'))]
         while True:
-            then = self.step(used(protocol.statuses, taken=chosen), *after)
+            then = self.step(used(protocol.statuses, 'status', taken=chosen), *after)
             if then not in protocol.statuses:
                 return chosen, then
             chosen.append(then)
@@ -287,18 +297,18 @@ class Reader:
     def sets(self, protocol, part, sets):
         """Reads the assignments and answers the word after them."""
         while True:
-            past = len(sets) >= SET_LIMIT
+            full = past(sets, SET_LIMIT, 'a rule sets at most %d places')
             taken = [place for place, _ in sets]
-            place = self.step(used(part.fields, past=past, taken=taken),
-                              words('val', 'me', 'targets', past=past, taken=taken))
+            place = self.step(used(part.fields, 'field', past=full, taken=taken),
+                              words('val', 'me', 'targets', past=full, taken=taken))
             self.step(signs(':='))
-            sets.append((place, self.value() if place == 'val' else self.step(used(protocol.statuses))))
+            sets.append((place, self.value() if place == 'val' else self.step(used(protocol.statuses, 'status'))))
             then = self.step(signs(','), words('free', 'lock', 'send', 'end'))
             if then != ',':
                 return then
 
     def value(self):
-        text = self.step(words('val', 'msg', 'kept', 'rs'), Choice('zero'))
+        text = self.step(words('val', 'msg', 'kept', 'rs'), Choice('zero', what='value'))
         return text if text in RESERVED else '0'
 
     def send(self, protocol):
@@ -306,9 +316,9 @@ class Reader:
         chosen = None
         if to in ('kids', 'others'):
             self.word('in')
-            chosen, message = self.statuses(protocol, used(protocol.messages))
+            chosen, message = self.statuses(protocol, used(protocol.messages, 'message'))
         else:
-            message = self.step(used(protocol.messages))
+            message = self.step(used(protocol.messages, 'message'))
         return to, chosen, message, self.value()
 
     def tree(self):
@@ -334,37 +344,37 @@ class Reader:
         self.word('work')
         start = self.start
         self.word('lines')
-        lines, lines_start = value_of(self.step(number())), self.start
+        lines, lines_start = value_of(self.step(number('number of lines'))), self.start
         self.word('self')
-        self_count, self_start = value_of(self.step(number())), self.start
+        self_count, self_start = value_of(self.step(number('number of self firings'))), self.start
         entries = []
         then = self.word('at', 'end')
         while then == 'at':
-            where, where_start = value_of(self.step(number())), self.start
+            where, where_start = value_of(self.step(number('object'))), self.start
             self.word('line')
-            line, line_start = value_of(self.step(number())), self.start
+            line, line_start = value_of(self.step(number('line'))), self.start
             requests = []
             entries.append((where, where_start, line, line_start, requests))
-            then = self.step(used(protocol.messages), words('at', 'end'))
+            then = self.step(used(protocol.messages, 'message'), words('at', 'end'))
             while then in protocol.messages:
                 message_start = self.start
-                requests.append((then, value_of(self.step(number(GREATEST_VALUE))), message_start))
-                then = self.step(used(protocol.messages), words('at', 'end'))
+                requests.append((then, value_of(self.step(number('value', GREATEST_VALUE))), message_start))
+                then = self.step(used(protocol.messages, 'message'), words('at', 'end'))
         return RawWork(start, lines, lines_start, self_count, self_start, entries)
 
     def history(self, protocol):
         names = {name for part in protocol.kinds.values() for name in part.rules}
         self.word('history')
         firings = []
-        then = self.step(number(), words('end'))
+        then = self.step(number('line'), words('end'))
         while then != 'end':
-            line, where = value_of(then), value_of(self.step(number()))
-            rule, me = self.step(used(names)), None
-            past = len(firings) + 1 >= HISTORY_LIMIT
-            then = self.step(words('from'), number(past=past), words('end'))
+            line, where = value_of(then), value_of(self.step(number('object')))
+            rule, me = self.step(used(names, 'rule')), None
+            full = past(range(len(firings) + 1), HISTORY_LIMIT, 'a history has at most %d firings')
+            then = self.step(words('from'), number('line', past=full), words('end'))
             if then == 'from':
-                me = value_of(self.step(number()))
-                then = self.step(number(past=past), words('end'))
+                me = value_of(self.step(number('child')))
+                then = self.step(number('line', past=full), words('end'))
             firings.append(Firing(line, where, rule, me))
         return firings
 

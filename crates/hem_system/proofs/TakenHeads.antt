@@ -22,7 +22,7 @@ use Rattle.hem_system.proofs.Made.{effect_with}
 
 -- the heads that a take looks at are the same
 abbrev Alike : Take → Local → Heads → Heads → Type 0
-Alike (take.Me id) local a b = b.me ≡ a.me
+Alike (take.Me id) local a b = b.request ≡ a.request
 Alike (take.Parent id) local a b = b.parent ≡ a.parent
 Alike (take.Kids id) local a b = awaited_heads local b ≡ awaited_heads local a
 Alike take.Nothing local a b = Unit {0}
