@@ -128,11 +128,11 @@ whole_when Memory b x y old new same text made = tt
 whole_when a b x y old new same text made = (same, subst (λ z. Appends old new z) text made)
 
 -- what a reply that was written says is the whole answer
-written_whole : (words : List (List ℕ)) (left : Option (List ℕ)) (a : Status) (x : List ℕ) (old new : Option (List ℕ)) → Says words left a x → Appends old new x
+written_whole : (words : List (List ℕ)) (left : Option (List ℕ)) (before now : ℕ) (a : Status) (x : List ℕ) (old new : Option (List ℕ)) → Says words left before now a x → Appends old new x
     → IfSome left (λ bytes. (b : Status) (y : List ℕ) → Answer words bytes b y → IsWhole a b y old new)
-written_whole words None a x old new says made = tt
-written_whole words (Some bytes) ReadFault x old new says made = λ b y answer. tt
-written_whole words (Some bytes) a x old new says made = λ b y answer.
+written_whole words None before now a x old new says made = tt
+written_whole words (Some bytes) before now ReadFault x old new says made = λ b y answer. tt
+written_whole words (Some bytes) before now a x old new says made = λ b y answer.
     let one = answer_once words bytes a b x y says answer in whole_when a b x y old new one.0 one.1 made
 
 fault_whole : (words : List (List ℕ)) (left : Option (List ℕ)) (old new : Option (List ℕ)) → IfSome left (λ bytes. (b : Status) (y : List ℕ) → Answer words bytes b y → IsWhole WriteFault b y old new)
@@ -140,10 +140,10 @@ fault_whole words None old new = tt
 fault_whole words (Some bytes) old new = λ b y answer. tt
 
 -- a reply that was delivered leaves the whole answer, or a write fault
-pub delivered_whole : (words : List (List ℕ)) (left : Option (List ℕ)) (result a : Status) (x : List ℕ) (old new : Option (List ℕ)) (R P : Type 0) → Says words left a x
+pub delivered_whole : (words : List (List ℕ)) (left : Option (List ℕ)) (before now : ℕ) (result a : Status) (x : List ℕ) (old new : Option (List ℕ)) (R P : Type 0) → Says words left before now a x
     → ((result ≡ a) × Appends old new x) ⊎ ((result ≡ WriteFault) × R × P)
     → IfSome left (λ bytes. (b : Status) (y : List ℕ) → Answer words bytes b y → IsWhole result b y old new)
-delivered_whole words left result a x old new R P says (inl made) =
-    subst (λ r. IfSome left (λ bytes. (b : Status) (y : List ℕ) → Answer words bytes b y → IsWhole r b y old new)) (sym made.0) (written_whole words left a x old new says made.1)
-delivered_whole words left result a x old new R P says (inr fault) =
+delivered_whole words left before now result a x old new R P says (inl made) =
+    subst (λ r. IfSome left (λ bytes. (b : Status) (y : List ℕ) → Answer words bytes b y → IsWhole r b y old new)) (sym made.0) (written_whole words left before now a x old new says made.1)
+delivered_whole words left before now result a x old new R P says (inr fault) =
     subst (λ r. IfSome left (λ bytes. (b : Status) (y : List ℕ) → Answer words bytes b y → IsWhole r b y old new)) (sym fault.0) (fault_whole words left old new)

@@ -22,7 +22,7 @@ use std::alloc::Global;
 /// The most bytes of input.
 pub(crate) const MOST_BYTES: usize = 33_554_432;
 
-const USAGE: &str = "usage: hem JOB [--json] [--count N] [--seed N]\n";
+const USAGE: &str = "usage: hem group\n";
 
 /// A status and the text that goes with it.
 #[derive(Drop)]
@@ -128,11 +128,12 @@ pub(crate) fn answer<S: Source>(
     words: &[String],
     source: &mut S,
 ) -> Result<Reply, OutOfMemory>
-    ensures says { IfOk result (λ r. Says (map string_bytes words.now) (S.left source.old) r.status r.text.items) }
+    ensures says { IfOk result (λ r. Says (map string_bytes words.now) (S.left source.old) (S.faults source.old) (S.faults source.new) r.status r.text.items) }
     ensures unread { ¬ IsGood (map string_bytes words.now) → source.new ≡ source.old }
     ensures read { IfOk result (λ r. IsAfterReading r.status → IsAtEnd (S.left source.new)) }
     ensures read_fault { IfOk result (λ r. r.status ≡ Status.ReadFault → Rose (S.faults source.old) (S.faults source.new)) }
-    ensures too_long { IfOk result (λ r. r.status ≡ Status.TooLong → S.taken source.new ≡ grown (S.taken source.old) (MOST_BYTES + 1)) }
+    ensures read_fault_within { IfOk result (λ r. r.status ≡ Status.ReadFault → (n : ℕ) × (n ≤ most_bytes) × (S.taken source.new ≡ grown (S.taken source.old) n)) }
+    ensures too_long { IfOk result (λ r. r.status ≡ Status.TooLong → S.taken source.new ≡ grown (S.taken source.old) (most_bytes + 1)) }
     ensures later { S.faults source.old ≤ S.faults source.new }
     ensures same { S.setup source.new ≡ S.setup source.old }
 {
