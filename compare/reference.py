@@ -518,7 +518,7 @@ def group(text):
 def answer(words_given, data):
     """The status and the text for the words after the program's name and the bytes of its input."""
     if words_given != ['group']:
-        return 1, 'usage: hem JOB [--json] [--count N] [--seed N]\n'
+        return 1, 'usage: hem group\n'
     if len(data) > INPUT_LIMIT:
         return 4, 'too long\n'
     status, lines = group(data.decode('latin-1'))

@@ -12,13 +12,13 @@ of_nothing None some = some.1
 of_nothing (Some bytes) none = none
 
 -- a reply that was written whole
-whole_writes : (words : List (List ℕ)) (left : Option (List ℕ)) (a : Status) (x : List ℕ) (old new : Option (List ℕ)) → Says words left a x → Appends old new x → Writes words left a old new
-whole_writes words left Memory x old new says made = absurd (of_nothing left says)
-whole_writes words left WriteFault x old new says made = absurd (of_nothing left says)
-whole_writes words left a x old new says made = (x, says, made)
+whole_writes : (words : List (List ℕ)) (left : Option (List ℕ)) (before now : ℕ) (a : Status) (x : List ℕ) (old new : Option (List ℕ)) → Says words left before now a x → Appends old new x → Writes words left before now a old new
+whole_writes words left before now Memory x old new says made = absurd (of_nothing left says)
+whole_writes words left before now WriteFault x old new says made = absurd (of_nothing left says)
+whole_writes words left before now a x old new says made = (x, says, made)
 
 -- a reply that was delivered, whole or in part
-pub delivered_writes : (words : List (List ℕ)) (left : Option (List ℕ)) (result a : Status) (x : List ℕ) (old new : Option (List ℕ)) (R : Type 0) → Says words left a x
-    → ((result ≡ a) × Appends old new x) ⊎ ((result ≡ WriteFault) × R × AppendsPrefix old new x) → Writes words left result old new
-delivered_writes words left result a x old new R says (inl made) = subst (λ r. Writes words left r old new) (sym made.0) (whole_writes words left a x old new says made.1)
-delivered_writes words left result a x old new R says (inr fault) = subst (λ r. Writes words left r old new) (sym fault.0) (a, x, says, fault.2)
+pub delivered_writes : (words : List (List ℕ)) (left : Option (List ℕ)) (before now : ℕ) (result a : Status) (x : List ℕ) (old new : Option (List ℕ)) (R : Type 0) → Says words left before now a x
+    → ((result ≡ a) × Appends old new x) ⊎ ((result ≡ WriteFault) × R × AppendsPrefix old new x) → Writes words left before now result old new
+delivered_writes words left before now result a x old new R says (inl made) = subst (λ r. Writes words left before now r old new) (sym made.0) (whole_writes words left before now a x old new says made.1)
+delivered_writes words left before now result a x old new R says (inr fault) = subst (λ r. Writes words left before now r old new) (sym fault.0) (a, x, says, fault.2)

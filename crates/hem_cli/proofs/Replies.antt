@@ -10,9 +10,10 @@ use Rattle.hem_system.specs.State.{State, start, Runs}
 use Rattle.hem_system.specs.Replays.{IsIllegal}
 use Rattle.hem_report.specs.Texts.{illegal_text}
 use Rattle.hem_report.specs.StateText.{state_text}
-use Rattle.hem_cli.specs.Document.{Document, IsDocument, tree_in, work_in, start_in}
-use Rattle.hem_cli.specs.Faults.{IsDocumentFault}
-use Rattle.hem_cli.specs.SetUp.{IsSetUp, IsSetupFault}
+use Rattle.hem_document.specs.declared.documents.Document.{Document}
+use Rattle.hem_document.specs.Documents.{IsDocument, IsDocumentFault}
+use Rattle.hem_document.specs.SetUp.{tree_in, work_in, IsSetUp, IsSetupFault}
+use Rattle.hem_cli.specs.Start.{start_in}
 use Rattle.hem_cli.specs.Texts.{fault_text, setup_text, grouped_text}
 use Rattle.hem_cli.specs.Answer.{Answer, IsGood, IsRepliedTo, most_bytes}
 use Rattle.hem_cli.specs.Outcome.{IsAfterReading}
@@ -26,28 +27,28 @@ replied_at d a status s text same_status same_text replied =
     subst (λ x. IsRepliedTo d x text) (sym same_status) (subst (λ x. IsRepliedTo d a x) (sym same_text) replied)
 
 -- a history that runs
-pub runs_replied : (d : Document) (tree : Tree) (work : Work) (end : State) (s : List ℕ) (status : Status) (text : List ℕ) → IsSetUp d → tree ≡ tree_in d → work ≡ work_in d
-    → Runs d.protocol tree (start d.protocol tree work) d.history end
-    → ((old : State) → Runs d.protocol tree old d.history end → s ≡ grouped_text d.protocol tree old d.history end)
+pub runs_replied : (d : Document) (tree : Tree) (work : Work) (end : State) (s : List ℕ) (status : Status) (text : List ℕ) → IsSetUp d.setup → tree ≡ tree_in d.setup → work ≡ work_in d.setup
+    → Runs d.setup.protocol tree (start d.setup.protocol tree work) d.history end
+    → ((old : State) → Runs d.setup.protocol tree old d.history end → s ≡ grouped_text d.setup.protocol tree old d.history end)
     → status ≡ Done → text ≡ s → IsRepliedTo d status text
 runs_replied d tree work end s status text lawful same_tree same_work runs says same_status same_text =
-    let ran = subst (λ w. Runs d.protocol (tree_in d) (start d.protocol (tree_in d) w) d.history end) same_work
-    (subst (λ t. Runs d.protocol t (start d.protocol t work) d.history end) same_tree runs) in
-    let said = subst (λ t. (old : State) → Runs d.protocol t old d.history end → s ≡ grouped_text d.protocol t old d.history end) same_tree says in
-    replied_at d Done status s text same_status same_text (record { lawful = lawful; end = end; runs = ran; says = said (start_in d) ran })
+    let ran = subst (λ w. Runs d.setup.protocol (tree_in d.setup) (start d.setup.protocol (tree_in d.setup) w) d.history end) same_work
+    (subst (λ t. Runs d.setup.protocol t (start d.setup.protocol t work) d.history end) same_tree runs) in
+    let said = subst (λ t. (old : State) → Runs d.setup.protocol t old d.history end → s ≡ grouped_text d.setup.protocol t old d.history end) same_tree says in
+    replied_at d Done status s text same_status same_text (record { lawful = lawful; end = end; runs = ran; says = said (start_in d.setup) ran })
 
 -- a history that stops
-pub stops_replied : (d : Document) (tree : Tree) (work : Work) (place : ℕ) (before : State) (s : List ℕ) (status : Status) (text : List ℕ) → IsSetUp d → tree ≡ tree_in d → work ≡ work_in d
-    → IsIllegal d.protocol tree (start d.protocol tree work) d.history place before → s ≡ illegal_text place ++ state_text d.protocol tree before
+pub stops_replied : (d : Document) (tree : Tree) (work : Work) (place : ℕ) (before : State) (s : List ℕ) (status : Status) (text : List ℕ) → IsSetUp d.setup → tree ≡ tree_in d.setup → work ≡ work_in d.setup
+    → IsIllegal d.setup.protocol tree (start d.setup.protocol tree work) d.history place before → s ≡ illegal_text place ++ state_text d.setup.protocol tree before
     → status ≡ Illegal → text ≡ s → IsRepliedTo d status text
 stops_replied d tree work place before s status text lawful same_tree same_work stops says same_status same_text =
-    let stopped = subst (λ w. IsIllegal d.protocol (tree_in d) (start d.protocol (tree_in d) w) d.history place before) same_work
-    (subst (λ t. IsIllegal d.protocol t (start d.protocol t work) d.history place before) same_tree stops) in
-    let said = subst (λ t. s ≡ illegal_text place ++ state_text d.protocol t before) same_tree says in
+    let stopped = subst (λ w. IsIllegal d.setup.protocol (tree_in d.setup) (start d.setup.protocol (tree_in d.setup) w) d.history place before) same_work
+    (subst (λ t. IsIllegal d.setup.protocol t (start d.setup.protocol t work) d.history place before) same_tree stops) in
+    let said = subst (λ t. s ≡ illegal_text place ++ state_text d.setup.protocol t before) same_tree says in
     replied_at d Illegal status s text same_status same_text (record { lawful = lawful; place = place; before = before; stops = stopped; says = said })
 
 -- a tree or a work that isn't lawful
-pub unlawful_replied : (d : Document) (f : Fault) (s : List ℕ) (status : Status) (text : List ℕ) → IsSetupFault d f → s ≡ setup_text f → status ≡ Setup → text ≡ s → IsRepliedTo d status text
+pub unlawful_replied : (d : Document) (f : Fault) (s : List ℕ) (status : Status) (text : List ℕ) → IsSetupFault d.setup f → s ≡ setup_text f → status ≡ Setup → text ≡ s → IsRepliedTo d status text
 unlawful_replied d f s status text first says same_status same_text =
     replied_at d Setup status s text same_status same_text (record { fault = f; first = first; says = says })
 

@@ -19,10 +19,10 @@ past (Some xs) (Some ys) n A P a holds taken =
     holds xs (omega (arith, ap length taken.1, length-append taken.0 ys, taken.2.1.0 a))
 
 -- a reply says what its status and its text say
-pub said : (words : List (List ℕ)) (left : Option (List ℕ)) (r : Result Reply OutOfMemory) (status : Status) (text : List ℕ)
-    → IfOk r (λ x. x.status ≡ status) → IfOk r (λ x. x.text.items ≡ text) → Says words left status text → IfOk r (λ x. Says words left x.status x.text.items)
-said words left (Ok x) status text is_status is_text says = rw (is_status, is_text) says
-said words left (Err e) status text is_status is_text says = tt
+pub said : (words : List (List ℕ)) (left : Option (List ℕ)) (before now : ℕ) (r : Result Reply OutOfMemory) (status : Status) (text : List ℕ)
+    → IfOk r (λ x. x.status ≡ status) → IfOk r (λ x. x.text.items ≡ text) → Says words left before now status text → IfOk r (λ x. Says words left before now x.status x.text.items)
+said words left before now (Ok x) status text is_status is_text says = rw (is_status, is_text) says
+said words left before now (Err e) status text is_status is_text says = tt
 
 -- of the bytes that were read, where the source told them
 of_read : (left new : Option (List ℕ)) (bytes : List ℕ) (P : List ℕ → Type 0) → ReadsAll left new bytes → P bytes → OfBytes left P
@@ -30,13 +30,13 @@ of_read None new bytes P read holds = (bytes, holds)
 of_read (Some xs) new bytes P read holds = subst P read.0 holds
 
 -- an answer that comes after reading says itself
-says_after : (words : List (List ℕ)) (left : Option (List ℕ)) (status : Status) (text : List ℕ) → IsAfterReading status → OfBytes left (λ bytes. Answer words bytes status text) → Says words left status text
-says_after words left ReadFault text after answer = absurd after
-says_after words left status text after answer = answer
+says_after : (words : List (List ℕ)) (left : Option (List ℕ)) (before now : ℕ) (status : Status) (text : List ℕ) → IsAfterReading status → OfBytes left (λ bytes. Answer words bytes status text) → Says words left before now status text
+says_after words left before now ReadFault text after answer = absurd after
+says_after words left before now status text after answer = answer
 
 -- a reply to the bytes that were read says the answer to what was left
-pub read_says : (words : List (List ℕ)) (left new : Option (List ℕ)) (bytes : List ℕ) (r : Result Reply OutOfMemory) → IsGood words → ReadsAll left new bytes
-    → IfOk r (λ x. (w : List (List ℕ)) → IsGood w → Answer w bytes x.status x.text.items) → IfOk r (λ x. IsAfterReading x.status) → IfOk r (λ x. Says words left x.status x.text.items)
-read_says words left new bytes (Ok x) good read answers after =
-    says_after words left x.status x.text.items after (of_read left new bytes (λ bs. Answer words bs x.status x.text.items) read (answers words good))
-read_says words left new bytes (Err e) good read answers after = tt
+pub read_says : (words : List (List ℕ)) (left new : Option (List ℕ)) (before now : ℕ) (bytes : List ℕ) (r : Result Reply OutOfMemory) → IsGood words → ReadsAll left new bytes
+    → IfOk r (λ x. (w : List (List ℕ)) → IsGood w → Answer w bytes x.status x.text.items) → IfOk r (λ x. IsAfterReading x.status) → IfOk r (λ x. Says words left before now x.status x.text.items)
+read_says words left new before now bytes (Ok x) good read answers after =
+    says_after words left before now x.status x.text.items after (of_read left new bytes (λ bs. Answer words bs x.status x.text.items) read (answers words good))
+read_says words left new before now bytes (Err e) good read answers after = tt

@@ -45,7 +45,7 @@ abbrev pub fault_text : TextFault → Text
 fault_text f = codes "text " ++ place_text f.place ++ codes " " ++ cause_text f.cause ++ codes "\n"
 
 -- the first broken rule of a tree or a work
-abbrev pub setup_text : Setup → Text
+abbrev pub setup_text : SetupFault → Text
 setup_text f = codes "setup " ++ place_text f.place ++ codes " " ++ rule_text f.cause ++ codes "\n"
 
 -- the blocks in the printed order, where every rule of the protocol answers its processor at once

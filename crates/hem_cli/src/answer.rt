@@ -6,27 +6,23 @@ ghost use Rattle.hem_base.specs.Streams.{Rose, grown};
 ghost use Rattle.hem_cli.specs.Answer.{IsGood, Answer, most_bytes, IsRepliedTo};
 ghost use Rattle.hem_cli.specs.Outcome.{Says, IsAfterReading};
 ghost use Rattle.hem_cli.specs.declared.status.Status.{Status};
-ghost use Rattle.hem_cli.specs.Document.{tree_in, work_in};
-ghost use Rattle.hem_cli.specs.SetUp.{IsSetUp};
+ghost use Rattle.hem_document.specs.SetUp.{tree_in, work_in, IsSetUp};
 
 use crate::Status;
-use crate::document::Document;
 use crate::fault_texts::{fault_text, setup_text};
 use crate::grouping::{grouped_text, stopped_text};
-use crate::reading::read_document;
-use crate::setting_up::set_up;
 use hem_base::{OutOfMemory, Source};
+use hem_document::{Document, Lawful, read_document, set_up};
 use hem_io::{ReadEnd, read_all};
 use hem_system::{ReplayFault, replay};
 use hem_text::TextError;
-use hem_tree::{SetupError, Tree};
-use hem_work::Work;
+use hem_tree::SetupError;
 use std::alloc::Global;
 
 /// The most bytes of input.
 pub(crate) const MOST_BYTES: usize = 33_554_432;
 
-const USAGE: &str = "usage: hem JOB [--json] [--count N] [--seed N]\n";
+const USAGE: &str = "usage: hem group\n";
 
 /// A status and the text that goes with it.
 #[derive(Drop)]
@@ -73,17 +69,17 @@ fn reply_with(status: Status, text: String) -> Reply
 fn replayed(
     alloc: Global,
     document: &Document,
-    tree: &Tree,
-    work: &Work,
+    lawful: &Lawful,
 ) -> Result<Reply, OutOfMemory>
-    requires tree { tree.now ≡ tree_in document.now }
-    requires work { work.now ≡ work_in document.now }
-    requires lawful { IsSetUp document.now }
+    requires tree { lawful.now.tree ≡ tree_in document.now.setup }
+    requires work { lawful.now.work ≡ work_in document.now.setup }
+    requires lawful { IsSetUp document.now.setup }
     ensures { IfOk result (λ r. IsRepliedTo document.now r.status r.text.items) }
 {
-    let p = &document.protocol;
+    let p = &document.setup.protocol;
     let history = document.history.as_slice();
-    match replay(alloc, p, tree, work, history) {
+    let tree = &lawful.tree;
+    match replay(alloc, p, tree, &lawful.work, history) {
         Ok(end) => {
             let text = grouped_text(alloc, p, tree, history, &end)?;
             Ok(reply_with(Status::Done, text))
@@ -100,8 +96,8 @@ fn replayed(
 fn grouped(alloc: Global, document: &Document) -> Result<Reply, OutOfMemory>
     ensures { IfOk result (λ r. IsRepliedTo document.now r.status r.text.items) }
 {
-    match set_up(alloc, document) {
-        Ok((tree, work)) => replayed(alloc, document, &tree, &work),
+    match set_up(alloc, &document.setup) {
+        Ok(lawful) => replayed(alloc, document, &lawful),
         Err(SetupError::Setup(fault)) => {
             let text = setup_text(alloc, fault)?;
             Ok(reply_with(Status::Setup, text))
@@ -132,11 +128,12 @@ pub(crate) fn answer<S: Source>(
     words: &[String],
     source: &mut S,
 ) -> Result<Reply, OutOfMemory>
-    ensures says { IfOk result (λ r. Says (map string_bytes words.now) (S.left source.old) r.status r.text.items) }
+    ensures says { IfOk result (λ r. Says (map string_bytes words.now) (S.left source.old) (S.faults source.old) (S.faults source.new) r.status r.text.items) }
     ensures unread { ¬ IsGood (map string_bytes words.now) → source.new ≡ source.old }
     ensures read { IfOk result (λ r. IsAfterReading r.status → IsAtEnd (S.left source.new)) }
     ensures read_fault { IfOk result (λ r. r.status ≡ Status.ReadFault → Rose (S.faults source.old) (S.faults source.new)) }
-    ensures too_long { IfOk result (λ r. r.status ≡ Status.TooLong → S.taken source.new ≡ grown (S.taken source.old) (MOST_BYTES + 1)) }
+    ensures read_fault_within { IfOk result (λ r. r.status ≡ Status.ReadFault → (n : ℕ) × (n ≤ most_bytes) × (S.taken source.new ≡ grown (S.taken source.old) n)) }
+    ensures too_long { IfOk result (λ r. r.status ≡ Status.TooLong → S.taken source.new ≡ grown (S.taken source.old) (most_bytes + 1)) }
     ensures later { S.faults source.old ≤ S.faults source.new }
     ensures same { S.setup source.new ≡ S.setup source.old }
 {

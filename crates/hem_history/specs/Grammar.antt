@@ -8,16 +8,16 @@ use Rattle.hem_text.specs.declared.symbol.Symbol.TheVariants.{One, Maybe, Many}
 use Rattle.hem_text.specs.declared.symbol.Stands.{Stands}
 use Rattle.hem_text.specs.declared.symbol.Stands.TheVariants as stand
 use Rattle.hem_base.specs.declared.words.Reserved.TheVariants as word
-use Rattle.hem_text.specs.Grammars.{Grammar, Lexeme}
+use Rattle.hem_text.specs.Lexemes.{Lexeme}
+use Rattle.hem_text.specs.Grammars.{Grammar}
 use Rattle.hem_syntax.specs.Protocol.{Text, Protocol}
-use Rattle.hem_text.specs.Spelling.{is_name}
-use Rattle.hem_grammar.specs.Draft.{place_in}
+use Rattle.hem_syntax.specs.Names.{place_in}
 use Rattle.hem_text.specs.Spelling.{is_word, is_number, is_the_word}
 use Rattle.hem_history.specs.declared.draft.Terminal.{Terminal}
 use Rattle.hem_history.specs.declared.draft.Terminal.TheVariants as the
 use Rattle.hem_history.specs.declared.draft.Item.{Item}
 use Rattle.hem_history.specs.declared.draft.Item.TheVariants as item
-use Rattle.hem_history.specs.declared.limits.TheConstants.{MOST_FIRINGS, MOST_NUMBER}
+use Rattle.hem_history.specs.Limits.{most_firings, most_number}
 use Rattle.hem_text.specs.Numbers.{number_of}
 
 -- what has been read of a history, over the rule names of a protocol: the firings, and the line and the object of the one that is being read
@@ -48,17 +48,17 @@ stands _ = stand.Reserved
 
 -- how a token is spelled: a rule is named as a rule of any kind
 abbrev pub spells : Read → Terminal → Lexeme → Bool
-spells e the.History t = is_the_word word.History t.kind t.text
-spells e the.Rule t = is_word t.kind && is_some (place_in e.rule_names t.text)
-spells e the.From t = is_the_word word.From t.kind t.text
-spells e the.End t = is_the_word word.End t.kind t.text
-spells e _ t = is_number t.kind
+spells e the.History t = is_the_word word.History t
+spells e the.Rule t = is_word t && is_some (place_in e.rule_names t.text)
+spells e the.From t = is_the_word word.From t
+spells e the.End t = is_the_word word.End t
+spells e _ t = is_number t
 
 -- the limits: numbers have 32 bits, and the number of firings is tested at the line, with which a firing begins
 abbrev pub is_within : Read → Terminal → Lexeme → Bool
-is_within e the.Line t = nat_le (number_of t.text) MOST_NUMBER && nat_lt (length e.firings) MOST_FIRINGS
-is_within e the.Object t = nat_le (number_of t.text) MOST_NUMBER
-is_within e the.Child t = nat_le (number_of t.text) MOST_NUMBER
+is_within e the.Line t = nat_le (number_of t.text) most_number && nat_lt (length e.firings) most_firings
+is_within e the.Object t = nat_le (number_of t.text) most_number
+is_within e the.Child t = nat_le (number_of t.text) most_number
 is_within e _ t = true
 
 -- the firing of the first rule of that name, at the line and the object that were read
@@ -85,7 +85,6 @@ grammar =
       firsts = firsts;
       follows = follows;
       stands = stands;
-      is_name = λ t. is_name t.kind t.text;
       spells = spells;
       is_within = is_within;
       is_fresh = λ e x t. true;

@@ -1,16 +1,13 @@
 //! The grammar of histories.
 
 ghost use Rattle.std.specs.Prelude.{◌≡◌, ◌-◌, length, slice_get, unwrap_or, IfOk};
-ghost use Rattle.hem_text.specs.Grammars.{lexeme};
-ghost use Rattle.hem_text.specs.Spelling.{is_name};
-ghost use Rattle.hem_grammar.specs.Draft.{place_in};
-ghost use Rattle.hem_text.specs.Spelling.{is_word, is_number, is_the_word};
+ghost use Rattle.hem_syntax.specs.Names.{place_in};
 ghost use Rattle.hem_history.specs.Grammar.{start, firsts, follows, stands, with_child, grammar, nothing};
 
 use crate::limits::{MOST_FIRINGS, MOST_NUMBER};
-use hem_base::{Firing, LineId, List, ObjectId, OutOfMemory, Reserved, RuleId, word_bytes};
+use hem_base::{Firing, LineId, List, ObjectId, OutOfMemory, Reserved, RuleId};
 use hem_syntax::{Names, Protocol};
-use hem_text::{Language, Place, Stands, Symbol, TokenKind, is_at_most, is_name, value_of};
+use hem_text::{Language, Lexeme, Stands, Symbol, is_at_most, value_of};
 use std::alloc::Global;
 use std::marker::Model;
 
@@ -87,30 +84,6 @@ pub(crate) fn nothing<'a>(alloc: Global, p: &'a Protocol) -> HistoryDraft<'a>
     }
 }
 
-fn is_word(kind: TokenKind) -> bool
-    ensures { result ≡ is_word kind }
-{
-    match kind {
-        TokenKind::Word => true,
-        _ => false,
-    }
-}
-
-fn is_number(kind: TokenKind) -> bool
-    ensures { result ≡ is_number kind }
-{
-    match kind {
-        TokenKind::Number => true,
-        _ => false,
-    }
-}
-
-fn is_the_word(word: Reserved, kind: TokenKind, text: &[u8]) -> bool
-    ensures { result ≡ is_the_word word kind text.now }
-{
-    is_word(kind) && word_bytes(word) == text
-}
-
 /// The first rule of that name.
 fn rule_of(rule_names: &Names, text: &[u8]) -> Result<RuleId, OutOfMemory>
     ensures { IfOk result (λ rule. rule.0 ≡ unwrap_or (place_in rule_names.now text.now) 0) }
@@ -172,54 +145,44 @@ impl<'a> Language for HistoryDraft<'a> {
         }
     }
 
-    fn is_name(kind: TokenKind, text: &[u8], place: Place) -> bool
-        ensures { result ≡ is_name kind text.now }
-    {
-        is_name(kind, text)
-    }
-
-    fn spells(&self, terminal: Terminal, kind: TokenKind, text: &[u8], _place: Place) -> bool {
+    fn spells(&self, terminal: Terminal, token: &Lexeme<'_>) -> bool {
         match terminal {
-            Terminal::History => is_the_word(Reserved::History, kind, text),
-            Terminal::Rule => is_word(kind) && self.rule_names.place(text).is_some(),
-            Terminal::From => is_the_word(Reserved::From, kind, text),
-            Terminal::End => is_the_word(Reserved::End, kind, text),
-            Terminal::Line | Terminal::Object | Terminal::Child => is_number(kind),
+            Terminal::History => token.is_the_word(Reserved::History),
+            Terminal::Rule => token.is_word() && self.rule_names.place(token.text()).is_some(),
+            Terminal::From => token.is_the_word(Reserved::From),
+            Terminal::End => token.is_the_word(Reserved::End),
+            Terminal::Line | Terminal::Object | Terminal::Child => token.is_number(),
         }
     }
 
-    fn is_within(&self, terminal: Terminal, _kind: TokenKind, text: &[u8], _place: Place) -> bool {
+    fn is_within(&self, terminal: Terminal, token: &Lexeme<'_>) -> bool {
         match terminal {
-            Terminal::Line => is_at_most(text, MOST_NUMBER) && self.firings.len() < MOST_FIRINGS,
-            Terminal::Object | Terminal::Child => is_at_most(text, MOST_NUMBER),
+            Terminal::Line => {
+                is_at_most(token.text(), MOST_NUMBER) && self.firings.len() < MOST_FIRINGS
+            }
+            Terminal::Object | Terminal::Child => is_at_most(token.text(), MOST_NUMBER),
             _ => true,
         }
     }
 
-    fn is_fresh(&self, _terminal: Terminal, _kind: TokenKind, _text: &[u8], _place: Place) -> bool {
+    fn is_fresh(&self, _terminal: Terminal, _token: &Lexeme<'_>) -> bool {
         true
     }
 
-    fn read(
-        &mut self,
-        terminal: Terminal,
-        _kind: TokenKind,
-        text: &[u8],
-        _place: Place,
-    ) -> Result<(), OutOfMemory> {
+    fn read(&mut self, terminal: Terminal, token: &Lexeme<'_>) -> Result<(), OutOfMemory> {
         match terminal {
-            Terminal::Line => self.line = LineId(value_of(text) as u32),
-            Terminal::Object => self.object = ObjectId(value_of(text) as u32),
+            Terminal::Line => self.line = LineId(value_of(token.text()) as u32),
+            Terminal::Object => self.object = ObjectId(value_of(token.text()) as u32),
             Terminal::Rule => {
                 let firing = Firing {
                     line: self.line,
                     object: self.object,
-                    rule: rule_of(self.rule_names, text)?,
+                    rule: rule_of(self.rule_names, token.text())?,
                     me: None,
                 };
                 self.firings.push(firing)?;
             }
-            Terminal::Child => set_child(&mut self.firings, value_of(text) as u32),
+            Terminal::Child => set_child(&mut self.firings, value_of(token.text()) as u32),
             Terminal::History | Terminal::From | Terminal::End => {}
         }
         Ok(())

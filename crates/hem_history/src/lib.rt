@@ -6,5 +6,4 @@ mod limits;
 mod reading;
 
 pub use draft::{HistoryDraft, Item, Terminal};
-pub use limits::MOST_FIRINGS;
 pub use reading::read_history;

@@ -9,13 +9,14 @@ use Rattle.hem_base.specs.declared.ids.ObjectId.{ObjectId}
 use Rattle.hem_tree.specs.declared.setup.SetupCause.{SetupCause}
 use Rattle.hem_tree.specs.declared.raw.RawNode.{RawNode}
 use Rattle.hem_tree.specs.declared.objects.Object.{Object}
-use Rattle.hem_tree.specs.Tree.{Tree, Node, IsLawful, below, is_number, is_child, parent_of, level_of, most_objects}
+use Rattle.hem_tree.specs.Limits.{most_objects}
+use Rattle.hem_tree.specs.Tree.{Tree, Node, IsLawful, below, is_number, is_child, parent_of, level_of}
 use Rattle.hem_tree.specs.Raw.{IsRawTree, parent_in, tree_of}
-use Rattle.hem_tree.specs.Limits.{elders_of, limit_passed, passed_at, IsFirstPassed, IsTreeFault}
+use Rattle.hem_tree.specs.Building.{elders_of, limit_passed, passed_at, IsFirstPassed, IsTreeFault}
 use Rattle.hem_tree.specs.Objects.{number_of, number_at, elders_in, AreParents, node_of, described, IsObjectOf, IsMade}
 use Rattle.hem_tree.proofs.Lawful.{get_tree, one_if, count_more, count_same, get_within, length_tree, parent_at, parent_past, level_is, level_of_node}
 use Rattle.hem_tree.proofs.Refused.{within_at, elders_at, elders_none, lawful, unlawful}
-use Rattle.hem_tree.proofs.Reading.{get_push}
+use Rattle.hem_tree.proofs.TreesOfTokens.{get_push}
 
 -- whether an object is a child of high
 abbrev is_under : List (Option ObjectId) → ℕ → ℕ → Bool

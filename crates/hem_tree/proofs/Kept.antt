@@ -2,7 +2,8 @@
 use Rattle.std.proofs.Common.{◌≡◌, Bool, true, false, cond, List, [], ◌∷◌, subst, Some, None}
 use Rattle.std.specs.Prelude.{find}
 use Rattle.std.proofs.lemmas.Option.{option_and_then_some}
-use Rattle.hem_text.specs.Grammars.{Grammar, Lexeme, State, Way, Rules, allows, goes, next, run, ways, way_at, takes, state}
+use Rattle.hem_text.specs.Lexemes.{Lexeme}
+use Rattle.hem_text.specs.Grammars.{Grammar, State, Way, Rules, allows, goes, next, run, ways, way_at, takes, state}
 
 -- each element has it
 abbrev pub Each : {X : Type 0} → (X → Type 0) → List X → Type 0

@@ -1,5 +1,5 @@
 pub mod Kept
-pub mod Reading
+pub mod TreesOfTokens
 pub mod Nearest
 pub mod Paths
 pub mod Lawful

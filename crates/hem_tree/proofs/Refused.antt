@@ -10,9 +10,10 @@ use Rattle.hem_base.specs.declared.ids.Kind.TheVariants.{Root, Mid, Leaf}
 use Rattle.hem_tree.specs.declared.setup.SetupCause.{SetupCause}
 use Rattle.hem_tree.specs.declared.setup.SetupCause.TheVariants as cause
 use Rattle.hem_tree.specs.declared.raw.RawNode.{RawNode}
-use Rattle.hem_tree.specs.Tree.{Tree, below, kind_of, parent_of, is_child, children_of, place_among, path_up, path_of, level_of, most_objects, most_children, most_levels, IsLawful}
+use Rattle.hem_tree.specs.Limits.{most_objects, most_children, most_levels}
+use Rattle.hem_tree.specs.Tree.{Tree, below, kind_of, parent_of, is_child, children_of, place_among, path_up, path_of, level_of, IsLawful}
 use Rattle.hem_tree.specs.Raw.{IsRawTree, IsLevelAfter, level_at, tree_of}
-use Rattle.hem_tree.specs.Limits.{elders_of, passed_at, IsFirstPassed}
+use Rattle.hem_tree.specs.Building.{elders_of, passed_at, IsFirstPassed}
 use Rattle.hem_tree.proofs.Nearest.{has_parent, deep_between, parent_is, next_parent}
 use Rattle.hem_tree.proofs.Paths.{cases_of, path_some}
 use Rattle.hem_tree.proofs.Lawful.{get_within, length_tree, get_tree, parent_inside, kind_past, level_is, kind_is, count_bounded, count_later, filter_none, filter_some, is_number_true, number_is, levels_of, parent_by_level, by_level}

@@ -1,15 +1,17 @@
 -- The grammar of trees:  TREE = tree root ( NODE {NODE} )     NODE = leaf | mid ( NODE {NODE} )
-use Rattle.std.specs.Prelude.{ℕ, ◌+◌, ◌-◌, ◌&&◌, Bool, true, false, List, [], ◌∷◌, ◌++◌, codes}
-use Rattle.std.specs.Str.{bytes_eq}
+use Rattle.std.specs.Prelude.{◌+◌, ◌-◌, Bool, true, List, [], ◌∷◌, ◌++◌}
 use Rattle.hem_base.specs.declared.ids.Kind.{Kind}
 use Rattle.hem_base.specs.declared.ids.Kind.TheVariants as kind
-use Rattle.hem_text.specs.declared.text.TokenKind.{TokenKind}
-use Rattle.hem_text.specs.declared.text.TokenKind.TheVariants as token
+use Rattle.hem_base.specs.declared.words.Reserved.{Reserved}
+use Rattle.hem_base.specs.declared.words.Reserved.TheVariants as word
+use Rattle.hem_base.specs.declared.words.Sign.TheVariants as sign
 use Rattle.hem_text.specs.declared.symbol.Symbol.{Symbol}
 use Rattle.hem_text.specs.declared.symbol.Symbol.TheVariants.{One, Item as One_of, Many}
 use Rattle.hem_text.specs.declared.symbol.Stands.{Stands}
 use Rattle.hem_text.specs.declared.symbol.Stands.TheVariants as stand
-use Rattle.hem_text.specs.Grammars.{Grammar, Lexeme}
+use Rattle.hem_text.specs.Lexemes.{Lexeme}
+use Rattle.hem_text.specs.Spelling.{is_the_word, is_the_sign}
+use Rattle.hem_text.specs.Grammars.{Grammar}
 use Rattle.hem_tree.specs.declared.draft.Terminal.{Terminal}
 use Rattle.hem_tree.specs.declared.draft.Terminal.TheVariants as the
 use Rattle.hem_tree.specs.declared.draft.Item.{Item}
@@ -36,26 +38,18 @@ stands the.Tree = stand.Reserved
 stands (the.Node s) = stand.Reserved
 stands _ = stand.Other
 
-abbrev pub is_word : TokenKind → Bool
-is_word token.Word = true
-is_word _ = false
-
-abbrev pub is_sign : TokenKind → Bool
-is_sign token.Sign = true
-is_sign _ = false
-
--- the word of a kind
-abbrev pub word_of : Kind → List ℕ
-word_of kind.Root = codes "root"
-word_of kind.Mid = codes "mid"
-word_of kind.Leaf = codes "leaf"
+-- the word of a kind of objects
+abbrev pub word_of : Kind → Reserved
+word_of kind.Root = word.Root
+word_of kind.Mid = word.Mid
+word_of kind.Leaf = word.Leaf
 
 -- how a token is spelled
 abbrev pub spells : TreeDraft → Terminal → Lexeme → Bool
-spells e the.Tree t = is_word t.kind && bytes_eq t.text (codes "tree")
-spells e (the.Node k) t = is_word t.kind && bytes_eq (word_of k) t.text
-spells e the.Open t = is_sign t.kind && bytes_eq t.text (codes "(")
-spells e the.Close t = is_sign t.kind && bytes_eq t.text (codes ")")
+spells e the.Tree t = is_the_word word.Tree t
+spells e (the.Node k) t = is_the_word (word_of k) t
+spells e the.Open t = is_the_sign sign.Open t
+spells e the.Close t = is_the_sign sign.Close t
 
 -- what a token says: a node stands one level deeper for each parenthesis that is open
 abbrev pub after : TreeDraft → Terminal → Lexeme → TreeDraft
@@ -64,14 +58,13 @@ after e the.Open t = record e { level = e.level + 1 }
 after e the.Close t = record e { level = e.level - 1 }
 after e the.Tree t = e
 
--- no name stands in a tree, nothing is limited and nothing may not be repeated
+-- nothing is limited, and all may be repeated
 abbrev pub grammar : Grammar TreeDraft Terminal Item
 grammar =
     record {
       firsts = firsts;
       follows = follows;
       stands = stands;
-      is_name = λ t. false;
       spells = spells;
       is_within = λ e x t. true;
       is_fresh = λ e x t. true;

@@ -1,6 +1,7 @@
+pub mod Limits
 pub mod Tree
 pub mod Grammar
 pub mod Raw
-pub mod Reading
-pub mod Limits
+pub mod TreeReading
+pub mod Building
 pub mod Objects

@@ -2,8 +2,9 @@
 use Rattle.std.specs.Prelude.{ℕ, ◌<◌, ◌≤◌, ◌≡◌, List, length, Option, None, Some, slice_get, map, option_map, option_and_then, count_by}
 use Rattle.hem_base.specs.declared.ids.ObjectId.{ObjectId}
 use Rattle.hem_tree.specs.declared.objects.Object.{Object}
-use Rattle.hem_tree.specs.Tree.{Tree, Node, below, is_number, parent_of, children_of, level_of, most_objects, IsLawful}
-use Rattle.hem_tree.specs.Limits.{passed_at}
+use Rattle.hem_tree.specs.Limits.{most_objects}
+use Rattle.hem_tree.specs.Tree.{Tree, Node, below, is_number, parent_of, children_of, level_of, IsLawful}
+use Rattle.hem_tree.specs.Building.{passed_at}
 
 -- the number of an object, where there is one
 abbrev pub number_of : Option ObjectId → Option ℕ

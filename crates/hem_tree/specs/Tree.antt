@@ -2,7 +2,7 @@
 use Rattle.std.specs.Prelude.{ℕ, zero, suc, ◌+◌, ◌<◌, ◌≤◌, ◌≡◌, ◌==◌, Bool, false, List, [], ◌∷◌, ◌++◌, length, Option, None, Some, slice_get, filter, count_by, option_map, option_and_then, Contains, ◌↔◌}
 use Rattle.hem_base.specs.declared.ids.Kind.{Kind}
 use Rattle.hem_base.specs.declared.ids.Kind.TheVariants.{Root, Leaf}
-use Rattle.hem_tree.specs.declared.limits.TheConstants.{MOST_OBJECTS, MOST_CHILDREN, MOST_LEVELS}
+use Rattle.hem_tree.specs.Limits.{most_objects, most_children, most_levels}
 
 -- an object: its kind and its parent, which the root lacks
 pub record Node : Type 0 where
@@ -59,16 +59,6 @@ level_of tree o = length (path_of tree o) + 1
 -- high is the parent of low, or that parent's parent, and so on
 abbrev pub IsUnder : Tree → ℕ → ℕ → Type 0
 IsUnder tree low high = Contains (path_of tree low) high
-
--- the limits on a tree
-abbrev pub most_objects : ℕ
-most_objects = MOST_OBJECTS
-
-abbrev pub most_children : ℕ
-most_children = MOST_CHILDREN
-
-abbrev pub most_levels : ℕ
-most_levels = MOST_LEVELS
 
 -- a tree that a protocol can run on: one root, all others below it in preorder, the leaves alone without children, within the limits
 pub record IsLawful (tree : Tree) : Type 0 where

@@ -1,11 +1,11 @@
 //! The grammar of trees.
 
 ghost use Rattle.std.specs.Prelude.{◌≡◌};
-ghost use Rattle.hem_tree.specs.Grammar.{start, is_word, is_sign, word_of, grammar, nothing};
+ghost use Rattle.hem_tree.specs.Grammar.{start, word_of, grammar, nothing};
 
 use crate::raw::RawNode;
-use hem_base::{Kind, List, OutOfMemory};
-use hem_text::{Language, Place, Stands, Symbol, TokenKind};
+use hem_base::{Kind, List, OutOfMemory, Reserved, Sign};
+use hem_text::{Language, Lexeme, Stands, Symbol};
 use std::alloc::Global;
 
 /// A token of a tree, by what it means.
@@ -52,31 +52,14 @@ pub fn nothing(alloc: Global) -> TreeDraft
     }
 }
 
-fn is_word(kind: TokenKind) -> bool
-    ensures { result ≡ is_word kind }
+/// The word of a kind of objects.
+fn word_of(kind: Kind) -> Reserved
+    ensures { result ≡ word_of kind }
 {
     match kind {
-        TokenKind::Word => true,
-        _ => false,
-    }
-}
-
-fn is_sign(kind: TokenKind) -> bool
-    ensures { result ≡ is_sign kind }
-{
-    match kind {
-        TokenKind::Sign => true,
-        _ => false,
-    }
-}
-
-fn word_of(kind: Kind) -> &'static [u8]
-    ensures { result.now ≡ word_of kind }
-{
-    match kind {
-        Kind::Root => b"root",
-        Kind::Mid => b"mid",
-        Kind::Leaf => b"leaf",
+        Kind::Root => Reserved::Root,
+        Kind::Mid => Reserved::Mid,
+        Kind::Leaf => Reserved::Leaf,
     }
 }
 
@@ -112,47 +95,30 @@ impl Language for TreeDraft {
         }
     }
 
-    // No name stands in a tree.
-    fn is_name(_kind: TokenKind, _text: &[u8], _place: Place) -> bool {
-        false
-    }
-
-    fn spells(&self, terminal: Terminal, kind: TokenKind, text: &[u8], _place: Place) -> bool {
+    fn spells(&self, terminal: Terminal, token: &Lexeme<'_>) -> bool {
         match terminal {
-            Terminal::Tree => is_word(kind) && text == b"tree".as_slice(),
-            Terminal::Node(node) => is_word(kind) && word_of(node) == text,
-            Terminal::Open => is_sign(kind) && text == b"(".as_slice(),
-            Terminal::Close => is_sign(kind) && text == b")".as_slice(),
+            Terminal::Tree => token.is_the_word(Reserved::Tree),
+            Terminal::Node(kind) => token.is_the_word(word_of(kind)),
+            Terminal::Open => token.is_the_sign(Sign::Open),
+            Terminal::Close => token.is_the_sign(Sign::Close),
         }
     }
 
-    fn is_within(
-        &self,
-        _terminal: Terminal,
-        _kind: TokenKind,
-        _text: &[u8],
-        _place: Place,
-    ) -> bool {
+    fn is_within(&self, _terminal: Terminal, _token: &Lexeme<'_>) -> bool {
         true
     }
 
-    fn is_fresh(&self, _terminal: Terminal, _kind: TokenKind, _text: &[u8], _place: Place) -> bool {
+    fn is_fresh(&self, _terminal: Terminal, _token: &Lexeme<'_>) -> bool {
         true
     }
 
-    fn read(
-        &mut self,
-        terminal: Terminal,
-        _kind: TokenKind,
-        _text: &[u8],
-        place: Place,
-    ) -> Result<(), OutOfMemory> {
+    fn read(&mut self, terminal: Terminal, token: &Lexeme<'_>) -> Result<(), OutOfMemory> {
         match terminal {
             Terminal::Node(kind) => {
                 let node = RawNode {
                     kind,
                     level: self.level,
-                    place,
+                    place: token.place(),
                 };
                 self.nodes.push(node)?;
             }

@@ -9,7 +9,6 @@ mod setup;
 mod tree;
 
 pub use draft::{Item, Terminal, TreeDraft};
-pub use limits::{MOST_CHILDREN, MOST_LEVELS, MOST_OBJECTS};
 pub use raw::{RawNode, RawTree, read_tree};
 pub use setup::{SetupCause, SetupError, SetupFault};
 pub use tree::Tree;

@@ -3,7 +3,7 @@
 ghost use Rattle.std.specs.Prelude.{◌≡◌, ◌+◌, ◌^◌, ◌<◌, ◌≤◌, ◌-◌, length, map, filter, count_by, IfOk, IfErr, OnOk};
 ghost use Rattle.hem_tree.specs.Tree.{below, is_number};
 ghost use Rattle.hem_tree.specs.Raw.{IsRawTree, parent_in, tree_of};
-ghost use Rattle.hem_tree.specs.Limits.{limit_passed, IsTreeRefused};
+ghost use Rattle.hem_tree.specs.Building.{limit_passed, IsTreeRefused};
 ghost use Rattle.hem_tree.specs.Objects.{number_of, number_at, elders_in, AreParents, IsObjectOf, IsMade};
 
 use crate::limits::{MOST_CHILDREN, MOST_LEVELS, MOST_OBJECTS};

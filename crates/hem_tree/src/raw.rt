@@ -2,15 +2,14 @@
 
 ghost use Rattle.std.specs.Prelude.{◌≡◌, IfOk, IfErr, OnErr};
 ghost use Rattle.hem_text.specs.Grammars.{state};
-ghost use Rattle.hem_text.specs.Cursors.{IsCursor};
 ghost use Rattle.hem_text.specs.Faults.{IsFirstFault};
 ghost use Rattle.hem_tree.specs.Grammar.{start, grammar, nothing};
 ghost use Rattle.hem_tree.specs.Raw.{IsRawTree};
-ghost use Rattle.hem_tree.specs.Reading.{ReadsTree};
+ghost use Rattle.hem_tree.specs.TreeReading.{ReadsTree};
 
 use crate::draft::{nothing, start};
 use hem_base::{Kind, List};
-use hem_text::{Cursor, Place, Stack, TextError, read};
+use hem_text::{Cursor, Place, TextError, read_part};
 use std::alloc::Global;
 use std::marker::Model;
 
@@ -55,28 +54,14 @@ impl RawTree {
 /// Reads the tree that begins at the cursor, and moves the cursor past it. An answer `Text` is the first fault. After an
 /// error the cursor stays where it was.
 pub fn read_tree(alloc: Global, cursor: &mut Cursor<'_>) -> Result<RawTree, TextError>
-    requires { IsCursor cursor.old.bytes.now cursor.old.tokens.now cursor.old.at }
-    ensures ok { IfOk result (ReadsTree cursor.old.bytes.now cursor.old.tokens.now cursor.old.at cursor.new.at) }
-    ensures text { IfErr result (IsFirstFault grammar (state nothing start) cursor.old.bytes.now cursor.old.tokens.now cursor.old.at) }
-    ensures same { cursor.new ≡ record cursor.old { at = cursor.new.at } }
-    ensures stays { OnErr result (cursor.new.at ≡ cursor.old.at) }
+    ensures ok { IfOk result (ReadsTree cursor.old.tokens cursor.new.tokens) }
+    ensures text { IfErr result (IsFirstFault grammar (state nothing start) cursor.old.tokens cursor.old.end) }
+    ensures end { cursor.new.end ≡ cursor.old.end }
+    ensures stays { OnErr result (cursor.new ≡ cursor.old) }
 {
-    let mut draft = nothing(alloc);
-    let mut stack = Stack::new(alloc);
-    if stack.put(start()).is_err() {
-        return Err(TextError::OutOfMemory);
-    }
-    match read(
-        &mut draft,
-        &mut stack,
-        cursor.bytes,
-        cursor.tokens,
-        cursor.at,
-    ) {
-        Ok(end) => {
-            cursor.at = end;
-            Ok(RawTree { nodes: draft.nodes })
-        }
+    let begin = nothing(alloc);
+    match read_part(alloc, cursor, begin, start()) {
+        Ok(draft) => Ok(RawTree { nodes: draft.nodes }),
         Err(e) => Err(e),
     }
 }

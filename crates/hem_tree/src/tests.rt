@@ -1,6 +1,6 @@
 use crate::{SetupError, Tree, read_tree};
 use hem_base::{ObjectId, OutOfMemory};
-use hem_text::{Cursor, TextError, tokens};
+use hem_text::{Cursor, TextError};
 use std::alloc::Global;
 use std::test::Fail;
 
@@ -33,18 +33,12 @@ fn answer(alloc: Global, bytes: &[u8]) -> Result<String, Fail> {
     if bytes.len() > 10_000_000 {
         return Ok(String::new(alloc));
     }
-    let tokens = tokens(alloc, bytes)?;
-    let mut cursor = Cursor {
-        bytes,
-        tokens: tokens.as_slice(),
-        at: 0,
-    };
+    let mut cursor = Cursor::new(bytes);
     let raw = match read_tree(alloc, &mut cursor) {
         Ok(raw) => raw,
         Err(TextError::Text(fault)) => {
             let (line, column, cause) = (fault.place.line, fault.place.column, fault.cause);
-            let at = cursor.at;
-            return Ok(format!(in alloc; "text {line}:{column} {cause:?} {at}")?);
+            return Ok(format!(in alloc; "text {line}:{column} {cause:?}")?);
         }
         Err(TextError::OutOfMemory) => return Err(OutOfMemory)?,
     };
@@ -70,17 +64,17 @@ fn trees_of_texts(rt: HostRuntime) -> Result<(), Fail> {
             b"tree root(mid(mid(leaf)) mid(leaf)) mid",
             " Root1 None 1 4 < 1 2 3 4 5; Mid2 Some(0) 2 < 2 3; Mid3 Some(1) 3 < 3; Leaf4 Some(2) <; Mid2 Some(0) 5 < 5; Leaf3 Some(4) <;",
         ),
-        (b"tree root()", "text 1:11 Expected 0"),
-        (b"tree root(frob)", "text 1:11 Expected 0"),
-        (b"", "text 1:1 Expected 0"),
-        (b"root(leaf)", "text 1:1 Expected 0"),
-        (b"tree leaf", "text 1:6 Expected 0"),
-        (b"tree mid(leaf)", "text 1:6 Expected 0"),
-        (b"tree root leaf", "text 1:11 Expected 0"),
-        (b"tree root(mid)", "text 1:14 Expected 0"),
-        (b"tree root(leaf(leaf))", "text 1:15 Expected 0"),
-        (b"tree root(root(leaf))", "text 1:11 Expected 0"),
-        (b"tree root(leaf\n", "text 2:1 Expected 0"),
+        (b"tree root()", "text 1:11 Expected"),
+        (b"tree root(frob)", "text 1:11 Expected"),
+        (b"", "text 1:1 Expected"),
+        (b"root(leaf)", "text 1:1 Expected"),
+        (b"tree leaf", "text 1:6 Expected"),
+        (b"tree mid(leaf)", "text 1:6 Expected"),
+        (b"tree root leaf", "text 1:11 Expected"),
+        (b"tree root(mid)", "text 1:14 Expected"),
+        (b"tree root(leaf(leaf))", "text 1:15 Expected"),
+        (b"tree root(root(leaf))", "text 1:11 Expected"),
+        (b"tree root(leaf\n", "text 2:1 Expected"),
     ];
     for (text, want) in table {
         assert_eq!(rt; answer(rt.alloc(), text)?.as_str(), want);

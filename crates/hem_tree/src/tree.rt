@@ -3,7 +3,7 @@
 ghost use Rattle.std.specs.Prelude.{◌≡◌, ◌<◌, ◌↔◌, IsTrue, IfOk, IfErr, Some, length, map};
 ghost use Rattle.hem_tree.specs.Tree.{kind_of, parent_of, children_of, level_of, IsUnder, IsLawful};
 ghost use Rattle.hem_tree.specs.Raw.{tree_of};
-ghost use Rattle.hem_tree.specs.Limits.{IsTreeRefused};
+ghost use Rattle.hem_tree.specs.Building.{IsTreeRefused};
 ghost use Rattle.hem_tree.specs.Objects.{number_of, IsObjectOf};
 
 use crate::objects::{Object, objects_of};

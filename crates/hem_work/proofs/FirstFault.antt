@@ -16,7 +16,7 @@ use Rattle.hem_syntax.specs.Protocol.{Protocol}
 use Rattle.hem_tree.specs.Tree.{Tree, Node}
 use Rattle.hem_work.specs.declared.raw.RawEntry.{RawEntry}
 use Rattle.hem_work.specs.declared.raw.RawWork.{RawWork}
-use Rattle.hem_work.specs.Setup.{fault_if, is_leaf, request_count, request_fault, requests_fault, heading_fault, entry_fault, entries_fault, counts_fault, starts_fault, first_fault}
+use Rattle.hem_work.specs.Building.{fault_if, is_leaf, request_count, request_fault, requests_fault, heading_fault, entry_fault, entries_fault, counts_fault, starts_fault, first_fault}
 use Rattle.hem_work.specs.Entries.{IsPlaced}
 
 -- the first of two is there

@@ -20,10 +20,12 @@ use Rattle.hem_tree.specs.Tree.{Tree, kind_of}
 use Rattle.hem_work.specs.declared.raw.RawEntry.{RawEntry}
 use Rattle.hem_work.specs.declared.raw.RawWork.{RawWork}
 use Rattle.hem_work.specs.Work.{requests_of}
-use Rattle.hem_work.specs.Setup.{most_lines, most_self, most_requests, messages_if, messages_for, requests_in, row_of, table_of, work_of, fault_if, is_leaf_kind, is_leaf, request_fault, requests_fault, heading_fault, entry_fault, entries_fault, counts_fault, starts_fault, first_fault}
-use Rattle.hem_work.specs.Lawful.{IsExternal, IsLawfulWork}
+use Rattle.hem_work.specs.Limits.{most_lines, most_self, most_requests}
+use Rattle.hem_work.specs.Building.{messages_if, messages_for, requests_in, row_of, table_of, work_of, fault_if, is_leaf_kind, is_leaf, request_fault, requests_fault, heading_fault, entry_fault, entries_fault, counts_fault, starts_fault, first_fault}
+use Rattle.hem_work.specs.Lawful.{IsExternal, IsWithinLimits, IsLawfulWork}
 use Rattle.hem_work.proofs.Tables.{get_map_below, table_length, row_length_of}
 use Rattle.hem_work.proofs.FirstFault.{neither, no_fault, not_false}
+use Rattle.hem_work.proofs.Totals.{counts as in_all}
 
 ext_req_alone : (c : Class) → is_ext_req c ≡ true → c ≡ ExtReq
 ext_req_alone ExtReq h = refl
@@ -138,11 +140,21 @@ module _ (raw : RawWork) (p : Protocol) (tree : Tree) (none : first_fault raw p 
           (λ past. inr (ap (λ l. get_or l o []) (row lt) ∙ get_or_past (row_of raw.entries (length tree) line) o [] (omega (arith, row_length_of raw.entries (length tree) line))))
           (order o (length tree))
 
+  within : IsWithinLimits (length tree) (work_of raw (length tree))
+  within =
+      let all = in_all raw p tree none in
+      record {
+        some_line = leb-true 1 raw.lines.0 lines_fit.0;
+        few_lines = leb-true raw.lines.0 most_lines lines_fit.1;
+        few_self = ltb-false most_self raw.self_count.0 (no_fault (nat_lt most_self raw.self_count.0) SelfCount raw.self_count.1 counts.1);
+        few_requests = all.requests;
+        few_of_each = all.each;
+        few_starts = all.starts;
+      }
+
   pub lawful_work : IsLawfulWork p tree (work_of raw (length tree))
   lawful_work = record {
-    some_line = leb-true 1 raw.lines.0 lines_fit.0;
-    few_lines = leb-true raw.lines.0 most_lines lines_fit.1;
-    few_self = ltb-false most_self raw.self_count.0 (no_fault (nat_lt most_self raw.self_count.0) SelfCount raw.self_count.1 counts.1);
+    limits = within;
     each_line = table_length raw.entries raw.lines.0 (length tree);
     each_object = λ line lt. ap length (get_map_below (row_of raw.entries (length tree)) raw.lines.0 line [] lt) ∙ row_length_of raw.entries (length tree) line;
     leaves = λ line o some. ⊎_elim (λ is. leaf_in p tree line o raw.entries entries_fit (λ empty. some (is ∙ empty))) (λ empty. absurd (some empty)) (requests_cases line o);

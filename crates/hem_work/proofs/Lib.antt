@@ -1,4 +1,4 @@
-pub mod Reading
 pub mod Tables
 pub mod FirstFault
+pub mod Totals
 pub mod Fits

@@ -8,7 +8,7 @@ use Rattle.hem_base.specs.declared.ids.Message.{Message}
 use Rattle.hem_tree.specs.Tree.{below}
 use Rattle.hem_tree.proofs.Lawful.{length_below, below_more}
 use Rattle.hem_work.specs.declared.raw.RawEntry.{RawEntry}
-use Rattle.hem_work.specs.Setup.{messages_if, messages_for, requests_in, row_of, table_of}
+use Rattle.hem_work.specs.Building.{messages_if, messages_for, requests_in, row_of, table_of}
 use Rattle.hem_work.specs.Entries.{with_entry, IsPlaced}
 
 map_below : {X : Type 0} (f : ℕ → X) (n : ℕ) → map f (below (suc n)) ≡ map f (below n) ++ f n ∷ []

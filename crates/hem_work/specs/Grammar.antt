@@ -8,10 +8,10 @@ use Rattle.hem_text.specs.declared.symbol.Symbol.TheVariants.{One, Many}
 use Rattle.hem_text.specs.declared.symbol.Stands.{Stands}
 use Rattle.hem_text.specs.declared.symbol.Stands.TheVariants as stand
 use Rattle.hem_base.specs.declared.words.Reserved.TheVariants as word
-use Rattle.hem_text.specs.Spelling.{is_name}
-use Rattle.hem_text.specs.Grammars.{Grammar, Lexeme}
+use Rattle.hem_text.specs.Lexemes.{Lexeme}
+use Rattle.hem_text.specs.Grammars.{Grammar}
 use Rattle.hem_syntax.specs.Protocol.{Text, Protocol}
-use Rattle.hem_grammar.specs.Draft.{place_among, is_among}
+use Rattle.hem_syntax.specs.Names.{place_among, is_among}
 use Rattle.hem_text.specs.Spelling.{is_word, is_number, is_the_word}
 use Rattle.hem_syntax.specs.declared.rule.Class.{Class}
 use Rattle.hem_work.specs.declared.draft.Terminal.{Terminal}
@@ -20,6 +20,7 @@ use Rattle.hem_work.specs.declared.draft.Item.{Item}
 use Rattle.hem_work.specs.declared.draft.Item.TheVariants as item
 use Rattle.hem_work.specs.declared.raw.RawEntry.{RawEntry}
 use Rattle.hem_text.specs.Numbers.{number_of}
+use Rattle.hem_work.specs.Limits.{most_number, most_value}
 
 -- what has been read of a work, over the messages of a protocol; the last two are of the entry and of the request that are being read
 pub record Read : Type 0 where
@@ -58,22 +59,22 @@ id_of messages text = record { 0 = unwrap_or (place_among messages text) 0 }
 
 -- how a token is spelled
 abbrev pub spells : Read → Terminal → Lexeme → Bool
-spells e the.Work t = is_the_word word.Work t.kind t.text
-spells e the.Lines t = is_the_word word.Lines t.kind t.text
-spells e the.SelfWord t = is_the_word word.Own t.kind t.text
-spells e the.At t = is_the_word word.At t.kind t.text
-spells e the.LineWord t = is_the_word word.Line t.kind t.text
-spells e the.End t = is_the_word word.End t.kind t.text
-spells e the.Msg t = is_word t.kind && is_among e.messages t.text
-spells e _ t = is_number t.kind
+spells e the.Work t = is_the_word word.Work t
+spells e the.Lines t = is_the_word word.Lines t
+spells e the.SelfWord t = is_the_word word.Own t
+spells e the.At t = is_the_word word.At t
+spells e the.LineWord t = is_the_word word.Line t
+spells e the.End t = is_the_word word.End t
+spells e the.Msg t = is_word t && is_among e.messages t.text
+spells e _ t = is_number t
 
 -- the limits on numbers: the value of a request has 64 bits, every other number 32
 abbrev pub is_within : Read → Terminal → Lexeme → Bool
-is_within e the.LinesNumber t = nat_le (number_of t.text) 4294967295
-is_within e the.SelfNumber t = nat_le (number_of t.text) 4294967295
-is_within e the.Object t = nat_le (number_of t.text) 4294967295
-is_within e the.Line t = nat_le (number_of t.text) 4294967295
-is_within e the.Value t = nat_le (number_of t.text) 18446744073709551615
+is_within e the.LinesNumber t = nat_le (number_of t.text) most_number
+is_within e the.SelfNumber t = nat_le (number_of t.text) most_number
+is_within e the.Object t = nat_le (number_of t.text) most_number
+is_within e the.Line t = nat_le (number_of t.text) most_number
+is_within e the.Value t = nat_le (number_of t.text) most_value
 is_within e _ t = true
 
 -- the last entry with one more request
@@ -100,7 +101,6 @@ grammar =
       firsts = firsts;
       follows = follows;
       stands = stands;
-      is_name = λ t. is_name t.kind t.text;
       spells = spells;
       is_within = is_within;
       is_fresh = λ e x t. true;

@@ -1,6 +1,7 @@
+pub mod Limits
 pub mod Grammar
-pub mod Reading
+pub mod WorkReading
 pub mod Work
-pub mod Setup
+pub mod Building
 pub mod Entries
 pub mod Lawful

@@ -1,15 +1,13 @@
 //! The grammar of works.
 
 ghost use Rattle.std.specs.Prelude.{◌≡◌, IfOk};
-ghost use Rattle.hem_text.specs.Grammars.{lexeme};
-ghost use Rattle.hem_text.specs.Spelling.{is_name};
-ghost use Rattle.hem_text.specs.Spelling.{is_word, is_number, is_the_word};
 ghost use Rattle.hem_work.specs.Grammar.{start, firsts, follows, stands, id_of, grammar, nothing};
 
+use crate::limits::{MOST_NUMBER, MOST_VALUE};
 use crate::raw::RawEntry;
-use hem_base::{List, Message, MsgId, OutOfMemory, Reserved, word_bytes};
+use hem_base::{List, Message, MsgId, OutOfMemory, Reserved};
 use hem_syntax::{Class, Named, Protocol};
-use hem_text::{Language, Place, Stands, Symbol, TokenKind, is_at_most, is_name, value_of};
+use hem_text::{Language, Lexeme, Place, Stands, Symbol, is_at_most, value_of};
 use std::alloc::Global;
 use std::marker::Model;
 
@@ -98,30 +96,6 @@ pub fn nothing<'a>(alloc: Global, p: &'a Protocol) -> WorkDraft<'a>
     }
 }
 
-fn is_word(kind: TokenKind) -> bool
-    ensures { result ≡ is_word kind }
-{
-    match kind {
-        TokenKind::Word => true,
-        _ => false,
-    }
-}
-
-fn is_number(kind: TokenKind) -> bool
-    ensures { result ≡ is_number kind }
-{
-    match kind {
-        TokenKind::Number => true,
-        _ => false,
-    }
-}
-
-fn is_the_word(word: Reserved, kind: TokenKind, text: &[u8]) -> bool
-    ensures { result ≡ is_the_word word kind text.now }
-{
-    is_word(kind) && word_bytes(word) == text
-}
-
 /// The id of the message of that name.
 fn id_of(messages: &Named<Class>, text: &[u8]) -> Result<MsgId, OutOfMemory>
     ensures { IfOk result (λ id. id ≡ id_of messages.now text.now) }
@@ -178,70 +152,59 @@ impl<'a> Language for WorkDraft<'a> {
         }
     }
 
-    fn is_name(kind: TokenKind, text: &[u8], place: Place) -> bool
-        ensures { result ≡ is_name kind text.now }
-    {
-        is_name(kind, text)
-    }
-
-    fn spells(&self, terminal: Terminal, kind: TokenKind, text: &[u8], _place: Place) -> bool {
+    fn spells(&self, terminal: Terminal, token: &Lexeme<'_>) -> bool {
         match terminal {
-            Terminal::Work => is_the_word(Reserved::Work, kind, text),
-            Terminal::Lines => is_the_word(Reserved::Lines, kind, text),
-            Terminal::SelfWord => is_the_word(Reserved::Own, kind, text),
-            Terminal::At => is_the_word(Reserved::At, kind, text),
-            Terminal::LineWord => is_the_word(Reserved::Line, kind, text),
-            Terminal::End => is_the_word(Reserved::End, kind, text),
-            Terminal::Msg => is_word(kind) && self.messages.has(text),
+            Terminal::Work => token.is_the_word(Reserved::Work),
+            Terminal::Lines => token.is_the_word(Reserved::Lines),
+            Terminal::SelfWord => token.is_the_word(Reserved::Own),
+            Terminal::At => token.is_the_word(Reserved::At),
+            Terminal::LineWord => token.is_the_word(Reserved::Line),
+            Terminal::End => token.is_the_word(Reserved::End),
+            Terminal::Msg => token.is_word() && self.messages.has(token.text()),
             Terminal::LinesNumber
             | Terminal::SelfNumber
             | Terminal::Object
             | Terminal::Line
-            | Terminal::Value => is_number(kind),
+            | Terminal::Value => token.is_number(),
         }
     }
 
-    fn is_within(&self, terminal: Terminal, _kind: TokenKind, text: &[u8], _place: Place) -> bool {
+    fn is_within(&self, terminal: Terminal, token: &Lexeme<'_>) -> bool {
         match terminal {
             Terminal::LinesNumber | Terminal::SelfNumber | Terminal::Object | Terminal::Line => {
-                is_at_most(text, 4_294_967_295)
+                is_at_most(token.text(), MOST_NUMBER)
             }
-            Terminal::Value => is_at_most(text, 18_446_744_073_709_551_615),
+            Terminal::Value => is_at_most(token.text(), MOST_VALUE),
             _ => true,
         }
     }
 
-    fn is_fresh(&self, _terminal: Terminal, _kind: TokenKind, _text: &[u8], _place: Place) -> bool {
+    fn is_fresh(&self, _terminal: Terminal, _token: &Lexeme<'_>) -> bool {
         true
     }
 
-    fn read(
-        &mut self,
-        terminal: Terminal,
-        _kind: TokenKind,
-        text: &[u8],
-        place: Place,
-    ) -> Result<(), OutOfMemory> {
+    fn read(&mut self, terminal: Terminal, token: &Lexeme<'_>) -> Result<(), OutOfMemory> {
+        let place = token.place();
         match terminal {
             Terminal::Work => self.place = place,
-            Terminal::LinesNumber => self.lines = (value_of(text) as u32, place),
-            Terminal::SelfNumber => self.self_count = (value_of(text) as u32, place),
-            Terminal::Object => self.object = (value_of(text) as u32, place),
+            Terminal::LinesNumber => self.lines = (value_of(token.text()) as u32, place),
+            Terminal::SelfNumber => self.self_count = (value_of(token.text()) as u32, place),
+            Terminal::Object => self.object = (value_of(token.text()) as u32, place),
             Terminal::Line => {
                 let entry = RawEntry {
                     object: self.object,
-                    line: (value_of(text) as u32, place),
+                    line: (value_of(token.text()) as u32, place),
                     requests: List::new(self.alloc),
                 };
                 self.entries.push(entry)?;
             }
             Terminal::Msg => {
-                let id = id_of(self.messages, text)?;
+                let id = id_of(self.messages, token.text())?;
                 self.message = (id, place);
             }
             Terminal::Value => {
                 let (id, at) = self.message;
-                let value = value_of(text);
+                let value = value_of(token.text());
                 let len = self.entries.len();
                 if len > 0 {
                     self.entries

@@ -2,7 +2,9 @@
 
 ghost use Rattle.std.specs.Prelude.{◌≡◌, ◌+◌, ◌<◌, ◌≤◌, length, IfOk, IfNone};
 ghost use Rattle.hem_syntax.specs.Protocol.{has_class, is_ext_req};
-ghost use Rattle.hem_work.specs.Setup.{fault_if, fault_in, is_leaf, is_leaf_kind, request_count, starts_of, request_fault, requests_fault, heading_fault, entry_fault, entries_fault, counts_fault, starts_fault, first_fault};
+ghost use Rattle.hem_tree.specs.Limits.{most_objects};
+ghost use Rattle.hem_work.specs.Limits.{most_lines, most_self, most_requests};
+ghost use Rattle.hem_work.specs.Building.{fault_if, fault_in, is_leaf, is_leaf_kind, request_count, starts_of, request_fault, requests_fault, heading_fault, entry_fault, entries_fault, counts_fault, starts_fault, first_fault};
 
 use crate::limits::{MOST_LINES, MOST_REQUESTS, MOST_SELF, MOST_STARTS};
 use crate::raw::{RawEntry, RawWork};
@@ -64,7 +66,7 @@ fn is_leaf(tree: &Tree, object: u32) -> bool
 /// The rule that a request breaks, before which `before` requests stand in the text.
 fn request_fault(p: &Protocol, request: (Message, Place), before: usize) -> Option<SetupFault>
     ensures first { result ≡ request_fault p.now before request }
-    ensures few { IfNone result (before < MOST_REQUESTS) }
+    ensures few { IfNone result (before < most_requests) }
 {
     let (message, place) = request;
     if !is_external(p, message.id) {
@@ -78,9 +80,9 @@ fn request_fault(p: &Protocol, request: (Message, Place), before: usize) -> Opti
 
 /// The first rule that requests break, before which `before` requests stand in the text.
 fn requests_fault(p: &Protocol, requests: &[(Message, Place)], before: usize) -> Option<SetupFault>
-    requires { before ≤ MOST_REQUESTS }
+    requires { before ≤ most_requests }
     ensures first { result ≡ requests_fault p.now before requests.now }
-    ensures few { IfNone result (before + length requests.now ≤ MOST_REQUESTS) }
+    ensures few { IfNone result (before + length requests.now ≤ most_requests) }
 {
     for (k, request) in requests.iter().enumerate() {
         if let Some(fault) = request_fault(p, *request, before + k) {
@@ -111,9 +113,9 @@ fn entry_fault(
     entry: &RawEntry,
     before: usize,
 ) -> Option<SetupFault>
-    requires { before ≤ MOST_REQUESTS }
+    requires { before ≤ most_requests }
     ensures first { result ≡ entry_fault p.now tree.now lines before entry.now }
-    ensures few { IfNone result (before + length entry.now.requests ≤ MOST_REQUESTS) }
+    ensures few { IfNone result (before + length entry.now.requests ≤ most_requests) }
 {
     match heading_fault(tree, lines, entry) {
         Some(fault) => Some(fault),
@@ -130,7 +132,7 @@ fn count_requests(
 ) -> Result<usize, SetupFault>
     ensures fault { fault_in result ≡ entries_fault p.now tree.now lines 0 entries.now }
     ensures count { IfOk result (λ n. n ≡ request_count entries.now) }
-    ensures few { IfOk result (λ n. n ≤ MOST_REQUESTS) }
+    ensures few { IfOk result (λ n. n ≤ most_requests) }
 {
     let mut count = 0;
     for entry in entries {
@@ -145,8 +147,8 @@ fn count_requests(
 /// The first of the number of lines and that of self firings that is out of its bounds.
 fn counts_fault(raw: &RawWork) -> Option<SetupFault>
     ensures first { result ≡ counts_fault raw.now }
-    ensures lines { IfNone result (raw.now.lines.0 ≤ MOST_LINES) }
-    ensures self_count { IfNone result (raw.now.self_count.0 ≤ MOST_SELF) }
+    ensures lines { IfNone result (raw.now.lines.0 ≤ most_lines) }
+    ensures self_count { IfNone result (raw.now.self_count.0 ≤ most_self) }
 {
     let (lines, place) = raw.lines;
     if lines < 1 || lines > MOST_LINES {
@@ -161,11 +163,11 @@ fn counts_fault(raw: &RawWork) -> Option<SetupFault>
 
 /// The fault of a work of so many requests, over a tree of so many objects, that may start too much.
 fn starts_fault(raw: &RawWork, objects: u32, count: usize) -> Option<SetupFault>
-    requires lines { raw.now.lines.0 ≤ MOST_LINES }
-    requires self_count { raw.now.self_count.0 ≤ MOST_SELF }
-    requires objects { objects ≤ 64 }
+    requires lines { raw.now.lines.0 ≤ most_lines }
+    requires self_count { raw.now.self_count.0 ≤ most_self }
+    requires objects { objects ≤ most_objects }
     requires count { count ≡ request_count raw.now.entries }
-    requires few { count ≤ MOST_REQUESTS }
+    requires few { count ≤ most_requests }
     ensures { result ≡ starts_fault raw.now objects }
 {
     let firings = u64::from(raw.self_count.0) * u64::from(objects) * u64::from(raw.lines.0);

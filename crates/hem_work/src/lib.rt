@@ -3,12 +3,13 @@
 
 mod draft;
 mod faults;
+mod laws;
 mod limits;
 mod raw;
 mod rows;
 mod work;
 
 pub use draft::{Item, Terminal, WorkDraft};
-pub use limits::{MOST_LINES, MOST_REQUESTS, MOST_SELF, MOST_STARTS};
+pub use laws::faultless_works_are_lawful;
 pub use raw::{RawEntry, RawWork, read_work};
 pub use work::Work;

@@ -2,15 +2,14 @@
 
 ghost use Rattle.std.specs.Prelude.{◌≡◌, IfOk, IfErr, OnErr};
 ghost use Rattle.hem_text.specs.Grammars.{state};
-ghost use Rattle.hem_text.specs.Cursors.{IsCursor};
 ghost use Rattle.hem_text.specs.Faults.{IsFirstFault};
 ghost use Rattle.hem_work.specs.Grammar.{start, grammar, nothing};
-ghost use Rattle.hem_work.specs.Reading.{ReadsWork, raw_of};
+ghost use Rattle.hem_work.specs.WorkReading.{ReadsWork, raw_of};
 
 use crate::draft::{WorkDraft, nothing, start};
 use hem_base::{List, Message};
 use hem_syntax::Protocol;
-use hem_text::{Cursor, Place, Stack, TextError, read};
+use hem_text::{Cursor, Place, TextError, read_part};
 use std::alloc::Global;
 
 /// An entry of a work's text: an object and a line, each as a number with its place, and requests, each with the place of
@@ -47,26 +46,14 @@ fn raw_of(draft: WorkDraft<'_>) -> RawWork
 /// Reads the work that begins at the cursor, with the messages of the protocol, and moves the cursor past it. An answer
 /// `Text` is the first fault. After an error the cursor stays where it was.
 pub fn read_work(alloc: Global, cursor: &mut Cursor<'_>, p: &Protocol) -> Result<RawWork, TextError>
-    requires { IsCursor cursor.old.bytes.now cursor.old.tokens.now cursor.old.at }
-    ensures ok { IfOk result (ReadsWork p.now cursor.old.bytes.now cursor.old.tokens.now cursor.old.at cursor.new.at) }
-    ensures text { IfErr result (IsFirstFault grammar (state (nothing p.now) start) cursor.old.bytes.now cursor.old.tokens.now cursor.old.at) }
-    ensures same { cursor.new ≡ record cursor.old { at = cursor.new.at } }
-    ensures stays { OnErr result (cursor.new.at ≡ cursor.old.at) }
+    ensures ok { IfOk result (ReadsWork p.now cursor.old.tokens cursor.new.tokens) }
+    ensures text { IfErr result (IsFirstFault grammar (state (nothing p.now) start) cursor.old.tokens cursor.old.end) }
+    ensures end { cursor.new.end ≡ cursor.old.end }
+    ensures stays { OnErr result (cursor.new ≡ cursor.old) }
 {
-    let mut draft = nothing(alloc, p);
-    let mut stack = Stack::new(alloc);
-    stack.put(start())?;
-    match read(
-        &mut draft,
-        &mut stack,
-        cursor.bytes,
-        cursor.tokens,
-        cursor.at,
-    ) {
-        Ok(end) => {
-            cursor.at = end;
-            Ok(raw_of(draft))
-        }
+    let begin = nothing(alloc, p);
+    match read_part(alloc, cursor, begin, start()) {
+        Ok(draft) => Ok(raw_of(draft)),
         Err(e) => Err(e),
     }
 }

@@ -2,7 +2,7 @@
 
 ghost use Rattle.std.specs.Prelude.{◌≡◌, ◌++◌, ◌<◌, [], length, map, slice_index_or, All, IfOk, OnOk};
 ghost use Rattle.hem_tree.specs.Tree.{below};
-ghost use Rattle.hem_work.specs.Setup.{table_of};
+ghost use Rattle.hem_work.specs.Building.{table_of};
 ghost use Rattle.hem_work.specs.Entries.{with_entry, IsPlaced};
 
 use crate::raw::RawEntry;

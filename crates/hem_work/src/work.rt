@@ -3,7 +3,7 @@
 ghost use Rattle.std.specs.Prelude.{◌≡◌, IfOk, IfErr, OnOk, None, length};
 ghost use Rattle.hem_work.specs.Work.{requests_of};
 ghost use Rattle.hem_work.specs.Lawful.{IsLawfulWork};
-ghost use Rattle.hem_work.specs.Setup.{work_of, first_fault, IsWorkRefused};
+ghost use Rattle.hem_work.specs.Building.{work_of, first_fault, IsWorkRefused};
 
 use crate::faults::first_fault;
 use crate::raw::RawWork;

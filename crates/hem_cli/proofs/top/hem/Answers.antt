@@ -3,7 +3,7 @@ use Rattle.hem_cli.proofs.Once.{delivered_whole}
 use Rattle.hem_cli.proofs.top.hem.Goals as goal
 
 pub returns-in-Ok-clause-written : goal.returns-in-Ok-clause-written
-returns-in-Ok-clause-written g c = delivered_writes _ _ _ _ _ _ _ _ c.in-Ok.ensures.says c.deliver.ensures.whole
+returns-in-Ok-clause-written g c = delivered_writes _ _ _ _ _ _ _ _ _ _ c.in-Ok.ensures.says c.deliver.ensures.whole
 
 pub returns-in-Ok-clause-complete : goal.returns-in-Ok-clause-complete
-returns-in-Ok-clause-complete g c = delivered_whole _ _ _ _ _ _ _ _ _ c.in-Ok.ensures.says c.deliver.ensures.whole
+returns-in-Ok-clause-complete g c = delivered_whole _ _ _ _ _ _ _ _ _ _ _ c.in-Ok.ensures.says c.deliver.ensures.whole

@@ -1,5 +1,6 @@
 use Rattle.std.proofs.Common.{◌≡◌, ◌≤◌, drop, take}
-use Rattle.hem_work.specs.Setup.{most_requests, request_count, entries_fault}
+use Rattle.hem_work.specs.Limits.{most_requests}
+use Rattle.hem_work.specs.Building.{request_count, entries_fault}
 use Rattle.hem_work.proofs.faults.count_requests.Given as goal
 
 abbrev pub invariant-loop-entry : goal.invariant-loop-entry

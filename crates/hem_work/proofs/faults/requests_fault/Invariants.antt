@@ -1,5 +1,6 @@
 use Rattle.std.proofs.Common.{◌≡◌, ◌+◌, ◌≤◌, drop}
-use Rattle.hem_work.specs.Setup.{most_requests, requests_fault}
+use Rattle.hem_work.specs.Limits.{most_requests}
+use Rattle.hem_work.specs.Building.{requests_fault}
 use Rattle.hem_work.proofs.faults.requests_fault.Given as goal
 
 abbrev pub invariant-loop-k : goal.invariant-loop-k

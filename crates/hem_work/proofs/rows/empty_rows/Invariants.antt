@@ -1,5 +1,5 @@
 use Rattle.std.proofs.Common.{◌≡◌, ◌≤◌, ◌-◌, [], length}
-use Rattle.hem_work.specs.Setup.{table_of}
+use Rattle.hem_work.specs.Building.{table_of}
 use Rattle.hem_work.proofs.rows.empty_rows.Given as goal
 
 abbrev pub invariant-loop-alloc : goal.invariant-loop-alloc

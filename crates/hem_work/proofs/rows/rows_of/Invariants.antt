@@ -1,5 +1,5 @@
 use Rattle.std.proofs.Common.{◌≡◌, take}
-use Rattle.hem_work.specs.Setup.{table_of}
+use Rattle.hem_work.specs.Building.{table_of}
 use Rattle.hem_work.proofs.rows.rows_of.Given as goal
 
 abbrev pub invariant-loop-entry : goal.invariant-loop-entry

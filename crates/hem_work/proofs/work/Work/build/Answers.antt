@@ -1,5 +1,5 @@
 use Rattle.std.proofs.Common.{subst, sym, ap, ◌∙◌}
-use Rattle.hem_work.specs.Setup.{table_of}
+use Rattle.hem_work.specs.Building.{table_of}
 use Rattle.hem_work.specs.Lawful.{IsLawfulWork}
 use Rattle.hem_work.proofs.FirstFault.{all_placed}
 use Rattle.hem_work.proofs.Fits.{lawful_work}

@@ -1,0 +1,3 @@
+pub mod Fronts
+pub mod Documents
+pub mod SetUp
