@@ -3,6 +3,8 @@
 #![tactic(auto)]
 
 #[cfg(test)]
+mod answers;
+#[cfg(test)]
 mod call;
 #[cfg(test)]
 mod cut_documents;
@@ -13,14 +15,22 @@ mod greatest;
 #[cfg(test)]
 mod long_documents;
 #[cfg(test)]
+mod names;
+#[cfg(test)]
 mod reading;
 #[cfg(test)]
 mod setup_faults;
 #[cfg(test)]
 mod shipped_texts;
 #[cfg(test)]
+mod streams;
+#[cfg(test)]
 mod table;
 #[cfg(test)]
 mod text_faults;
+#[cfg(test)]
+mod tokens;
+#[cfg(test)]
+mod trees;
 #[cfg(test)]
 mod worked_histories;

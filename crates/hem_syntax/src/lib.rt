@@ -8,6 +8,3 @@ mod rule;
 pub use names::{Named, Names};
 pub use protocol::{KindPart, Protocol};
 pub use rule::{Assign, Atom, Class, Hold, Need, Origin, Rule, SendTo, Side, Take, Value};
-
-#[cfg(test)]
-mod tests;

@@ -19,6 +19,3 @@ pub use numbers::{is_at_most, number, value_of};
 pub use reader::{TextError, TextFault, read_part};
 pub use symbol::{Stands, Symbol};
 pub use text::{Cause, Place, TokenKind};
-
-#[cfg(test)]
-mod tests;

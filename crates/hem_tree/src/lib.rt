@@ -12,6 +12,3 @@ pub use draft::{Item, Terminal, TreeDraft};
 pub use raw::{RawNode, RawTree, read_tree};
 pub use setup::{SetupCause, SetupError, SetupFault};
 pub use tree::Tree;
-
-#[cfg(test)]
-mod tests;

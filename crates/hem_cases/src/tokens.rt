@@ -1,4 +1,6 @@
-use crate::{Cursor, TokenKind};
+//! Tokens of texts.
+
+use hem_text::{Cursor, TokenKind};
 use std::alloc::Global;
 use std::test::Fail;
 

@@ -1,5 +1,7 @@
-use crate::{Class, Named, Names};
+//! Tables of names.
+
 use hem_base::Name;
+use hem_syntax::{Class, Named, Names};
 use std::test::Fail;
 
 fn name(text: &[u8]) -> Result<Name, Fail> {
