@@ -1,5 +1,5 @@
 -- One firing at one object, with the heads of its input lists.
-use Rattle.std.specs.Prelude.{ℕ, nat_lt, Bool, true, false, ◌&&◌, length, Option, is_none, unwrap_or}
+use Rattle.std.specs.Prelude.{ℕ, ◌≡◌, nat_lt, Bool, true, false, ◌&&◌, IsTrue, length, Option, is_none, unwrap_or}
 use Rattle.std.specs.List.{list_all}
 use Rattle.std.specs.Option.{option_map_or}
 use Rattle.hem_base.specs.declared.ids.Kind.{Kind}
@@ -62,3 +62,9 @@ outs_of p kind rule me local heads =
       to = goes_to p rule.send local view;
       message = unwrap_or (message_of rule.send local view) no_message;
     }
+
+-- the rule fires here, leaves this local state, and takes and sends this
+pub record OneFire (p : Protocol) (kind : Kind) (rule : Rule) (me : Option ℕ) (local : Local) (heads : Heads) (after : Local) (outs : Outs) : Type 0 where
+  pub possible : IsTrue (can_fire p kind rule me local heads)
+  pub leaves : after ≡ local_after p kind rule me local heads
+  pub gives : outs ≡ outs_of p kind rule me local heads

@@ -9,6 +9,6 @@ mod plan;
 mod sends;
 mod view;
 
-pub use heads::Heads;
+pub use heads::{Heads, awaited_of};
 pub use outs::{Outs, To};
 pub use plan::{Plan, can};
