@@ -107,6 +107,15 @@ list_sent tree f e k lane (Some cell) some takes_not reaches_it =
     ∙ ap (λ (b : Bool). drop (cond b 1 0) (list_of cell lane) ++ cond (reaches tree f e.outs.to k lane) (e.outs.message ∷ []) []) takes_not
     ∙ ap (λ (b : Bool). list_of cell lane ++ cond b (e.outs.message ∷ []) []) reaches_it
 
+-- a list that is taken from and sent to
+list_both : (tree : Tree) (f : Firing) (e : Effect) (k : ℕ) (lane : Lane) (found : Option Cell) → IsSome found → takes tree f e.outs k lane ≡ true → reaches tree f e.outs.to k lane ≡ true
+    → option_map_or (λ cell. list_of cell lane) (option_map (cell_after tree f e k) found) [] ≡ drop 1 (option_map_or (λ cell. list_of cell lane) found []) ++ e.outs.message ∷ []
+list_both tree f e k lane None some takes_it reaches_it = cc
+list_both tree f e k lane (Some cell) some takes_it reaches_it =
+    list_of-after tree f e k cell lane
+    ∙ ap (λ (b : Bool). drop (cond b 1 0) (list_of cell lane) ++ cond (reaches tree f e.outs.to k lane) (e.outs.message ∷ []) []) takes_it
+    ∙ ap (λ (b : Bool). drop 1 (list_of cell lane) ++ cond b (e.outs.message ∷ []) []) reaches_it
+
 -- a firing changes its own alone
 pub changes_its_own : {p : Protocol} {tree : Tree} {old new : State} {f : Firing} → Fires p tree old f new → ChangesItsOwn p tree old f new
 changes_its_own {p = p} {tree = tree} {old = old} {new = new} {f = f} fires =
@@ -128,4 +137,5 @@ changes_its_own {p = p} {tree = tree} {old = old} {new = new} {f = f} fires =
       other_lists = λ k lane takes_not reaches_not. list_is k lane ∙ list_stays tree f it.effect k lane (slice_get it.line k) takes_not reaches_not ∙ sym (list_was k lane);
       taken = λ k lane takes_it reaches_not. list_is k lane ∙ list_taken tree f it.effect k lane (slice_get it.line k) takes_it reaches_not ∙ sym (ap (drop 1) (list_was k lane));
       sent = λ k lane some takes_not reaches_it. list_is k lane ∙ list_sent tree f it.effect k lane (slice_get it.line k) (subst (λ (o : Option Cell). IsSome o) (cell_before it k) some) takes_not reaches_it ∙ sym (ap (λ (ms : List Message). ms ++ it.effect.outs.message ∷ []) (list_was k lane));
+      both = λ k lane some takes_it reaches_it. list_is k lane ∙ list_both tree f it.effect k lane (slice_get it.line k) (subst (λ (o : Option Cell). IsSome o) (cell_before it k) some) takes_it reaches_it ∙ sym (ap (λ (ms : List Message). drop 1 ms ++ it.effect.outs.message ∷ []) (list_was k lane));
     }

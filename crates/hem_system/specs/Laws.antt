@@ -29,3 +29,4 @@ pub record ChangesItsOwn (p : Protocol) (tree : Tree) (old : State) (f : Firing)
   pub other_lists : (k : ℕ) (lane : Lane) → takes tree f effect.outs k lane ≡ false → reaches tree f effect.outs.to k lane ≡ false → list_in new f.line.0 k lane ≡ list_in old f.line.0 k lane
   pub taken : (k : ℕ) (lane : Lane) → takes tree f effect.outs k lane ≡ true → reaches tree f effect.outs.to k lane ≡ false → list_in new f.line.0 k lane ≡ drop 1 (list_in old f.line.0 k lane)
   pub sent : (k : ℕ) (lane : Lane) → IsSome (cell_at old f.line.0 k) → takes tree f effect.outs k lane ≡ false → reaches tree f effect.outs.to k lane ≡ true → list_in new f.line.0 k lane ≡ list_in old f.line.0 k lane ++ effect.outs.message ∷ []
+  pub both : (k : ℕ) (lane : Lane) → IsSome (cell_at old f.line.0 k) → takes tree f effect.outs k lane ≡ true → reaches tree f effect.outs.to k lane ≡ true → list_in new f.line.0 k lane ≡ drop 1 (list_in old f.line.0 k lane) ++ effect.outs.message ∷ []
