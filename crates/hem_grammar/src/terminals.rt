@@ -1,7 +1,7 @@
 //! The tokens and items of a protocol that is written out, by what they mean.
 
-use crate::rule::{Class, Hold, Origin, Side, Value};
 use hem_base::{Reserved, Sign};
+use hem_syntax::{Class, Hold, Origin, Side, Value};
 
 /// A token of a protocol.
 #[derive(Clone, Copy, Debug, PartialEq, Eq)]
