@@ -22,7 +22,11 @@ pub(crate) fn write_kind(output: &mut Output, kind: Kind) -> Result<(), OutOfMem
 }
 
 /// Appends the names of statuses, with commas between them.
-fn write_statuses(output: &mut Output, p: &Protocol, statuses: &[Status8]) -> Result<(), OutOfMemory>
+fn write_statuses(
+    output: &mut Output,
+    p: &Protocol,
+    statuses: &[Status8],
+) -> Result<(), OutOfMemory>
     ensures { OnOk result (output.new ≡ output.old ++ join_by (status_text p.now) (codes ",") statuses.now) }
 {
     let mut comma = "";

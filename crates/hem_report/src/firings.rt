@@ -24,7 +24,11 @@ fn write_from_child(output: &mut Output, me: Option<ObjectId>) -> Result<(), Out
 }
 
 /// Appends where a firing is made, as `LINE OBJECT `.
-fn write_firing_place(output: &mut Output, line: LineId, object: ObjectId) -> Result<(), OutOfMemory>
+fn write_firing_place(
+    output: &mut Output,
+    line: LineId,
+    object: ObjectId,
+) -> Result<(), OutOfMemory>
     ensures { OnOk result (output.new ≡ output.old ++ place_text line object) }
 {
     output.number(u64::from(line.0))?;
@@ -44,7 +48,11 @@ fn write_firing(output: &mut Output, p: &Protocol, firing: Firing) -> Result<(),
 }
 
 /// Appends the lines of firings.
-pub(crate) fn write_firings(output: &mut Output, p: &Protocol, firings: &[Firing]) -> Result<(), OutOfMemory>
+pub(crate) fn write_firings(
+    output: &mut Output,
+    p: &Protocol,
+    firings: &[Firing],
+) -> Result<(), OutOfMemory>
     ensures { OnOk result (output.new ≡ output.old ++ flat_map (firing_text p.now) firings.now) }
 {
     for firing in firings {

@@ -11,7 +11,11 @@ use hem_syntax::Protocol;
 use hem_system::{Lane, System};
 
 /// Appends messages, each with a space before it.
-fn write_messages(output: &mut Output, p: &Protocol, messages: &[Message]) -> Result<(), OutOfMemory>
+fn write_messages(
+    output: &mut Output,
+    p: &Protocol,
+    messages: &[Message],
+) -> Result<(), OutOfMemory>
     ensures { OnOk result (output.new ≡ output.old ++ messages_text p.now messages.now) }
 {
     for message in messages {

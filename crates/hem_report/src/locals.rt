@@ -11,7 +11,12 @@ use hem_output::Output;
 use hem_syntax::Protocol;
 
 /// Appends the fields and the value.
-fn write_values(output: &mut Output, p: &Protocol, kind: Kind, local: &Local) -> Result<(), OutOfMemory>
+fn write_values(
+    output: &mut Output,
+    p: &Protocol,
+    kind: Kind,
+    local: &Local,
+) -> Result<(), OutOfMemory>
     ensures { OnOk result (output.new ≡ output.old ++ values_text p.now kind local.now) }
 {
     write_fields(output, p, kind, local.fields.as_slice())?;

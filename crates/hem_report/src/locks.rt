@@ -33,7 +33,12 @@ fn write_origin(output: &mut Output, children: &[ObjectId], by: By) -> Result<()
 }
 
 /// Appends a held lock as `ORIGIN:ID:V`.
-fn write_held(output: &mut Output, p: &Protocol, children: &[ObjectId], lock: &Lock) -> Result<(), OutOfMemory>
+fn write_held(
+    output: &mut Output,
+    p: &Protocol,
+    children: &[ObjectId],
+    lock: &Lock,
+) -> Result<(), OutOfMemory>
     ensures { OnOk result (output.new ≡ output.old ++ held_text p.now (numbers_of children.now) lock.now) }
 {
     write_origin(output, children, lock.by)?;

@@ -19,7 +19,11 @@ fn fields_of(p: &Protocol, kind: Kind) -> &List<(Name, Status8)>
 }
 
 /// Appends the name of a status.
-pub(crate) fn write_status(output: &mut Output, p: &Protocol, status: Status8) -> Result<(), OutOfMemory>
+pub(crate) fn write_status(
+    output: &mut Output,
+    p: &Protocol,
+    status: Status8,
+) -> Result<(), OutOfMemory>
     ensures { OnOk result (output.new ≡ output.old ++ status_text p.now status) }
 {
     match p.status_name(status) {
@@ -64,7 +68,11 @@ pub(crate) fn write_field_name(
 }
 
 /// Appends a message as `ID:V`.
-pub(crate) fn write_message(output: &mut Output, p: &Protocol, message: Message) -> Result<(), OutOfMemory>
+pub(crate) fn write_message(
+    output: &mut Output,
+    p: &Protocol,
+    message: Message,
+) -> Result<(), OutOfMemory>
     ensures { OnOk result (output.new ≡ output.old ++ message_text p.now message) }
 {
     write_id(output, p, message.id)?;

@@ -85,7 +85,12 @@ fn write_line(
 }
 
 /// Appends the states of all lines.
-fn write_lines(output: &mut Output, p: &Protocol, tree: &Tree, s: &System) -> Result<(), OutOfMemory>
+fn write_lines(
+    output: &mut Output,
+    p: &Protocol,
+    tree: &Tree,
+    s: &System,
+) -> Result<(), OutOfMemory>
     ensures { OnOk result (output.new ≡ output.old ++ text_of_each (line_text p.now tree.now) 0 s.now) }
 {
     for line in 0..s.lines() {
@@ -95,7 +100,12 @@ fn write_lines(output: &mut Output, p: &Protocol, tree: &Tree, s: &System) -> Re
 }
 
 /// Appends a state.
-fn write_state(output: &mut Output, p: &Protocol, tree: &Tree, s: &System) -> Result<(), OutOfMemory>
+fn write_state(
+    output: &mut Output,
+    p: &Protocol,
+    tree: &Tree,
+    s: &System,
+) -> Result<(), OutOfMemory>
     ensures { OnOk result (output.new ≡ output.old ++ state_text p.now tree.now s.now) }
 {
     output.text("state\n")?;
