@@ -1,22 +1,12 @@
 //! Names and messages in texts.
 
 ghost use Rattle.std.specs.Prelude.{◌≡◌, ◌++◌, OnOk};
-ghost use Rattle.hem_syntax.specs.Protocol.{part};
-ghost use Rattle.hem_syntax.specs.Lawful.{IsProtocol};
 ghost use Rattle.hem_report.specs.Texts.{status_text, rule_text, id_text, message_text};
 ghost use Rattle.hem_report.specs.LocalText.{field_name};
 
-use hem_base::{Kind, List, Message, MsgId, Name, OutOfMemory, RuleId, Status8};
+use hem_base::{Kind, Message, MsgId, OutOfMemory, RuleId, Status8};
 use hem_output::Output;
 use hem_syntax::Protocol;
-
-/// The fields of a kind, each with its status at the start.
-fn fields_of(p: &Protocol, kind: Kind) -> &List<(Name, Status8)>
-    ensures fields { result.now ≡ (part p.now kind).fields }
-    ensures lawful { IsProtocol p.now }
-{
-    &p.part(kind).fields
-}
 
 /// Appends the name of a status.
 pub(crate) fn write_status(
@@ -61,8 +51,8 @@ pub(crate) fn write_field_name(
 ) -> Result<(), OutOfMemory>
     ensures { OnOk result (output.new ≡ output.old ++ field_name p.now kind place) }
 {
-    match fields_of(p, kind).get(place) {
-        Some((name, _)) => output.name(name),
+    match p.field_name(kind, place) {
+        Some(name) => output.name(name),
         None => Ok(()),
     }
 }

@@ -1,7 +1,7 @@
 -- The names of a protocol are words.
-use Rattle.std.proofs.Common.{◌≡◌, refl, sym, ◌∙◌, ℕ, zero, suc, List, [], ◌∷◌, map, Bool, true, false, Some, length}
+use Rattle.std.proofs.Common.{◌≡◌, refl, sym, ap, ◌∙◌, ℕ, ◌<◌, zero, suc, List, [], ◌∷◌, map, Bool, true, false, Some, length, get_or}
 use Rattle.std.proofs.lemmas.List.Folds.{list_all-append}
-use Rattle.std.proofs.lemmas.Option.{slice_get-map}
+use Rattle.std.proofs.lemmas.Option.{slice_get-map, slice_get-get_or}
 use Rattle.std.specs.Prelude.{IsTrue, slice_get, ◌&&◌, nat_le, option_map}
 use Rattle.std.specs.List.{list_all}
 use Rattle.hem_base.specs.Words.{is_word_text}
@@ -35,9 +35,34 @@ declarable_word text h = second_of (nat_le 1 (length text) && nat_le (length tex
 named_word : (names : List Text) (k : ℕ) (n : Text) → IsTrue (list_all is_declarable names) → Some n ≡ slice_get names k → IsTrue (is_word_text n)
 named_word names k n h is = declarable_word n (passes_at is_declarable names k n h (sym is))
 
+-- a name that stands with something
+pub pair_word : {A : Type 0} (names : List (Text × A)) (k : ℕ) (n : Text) → IsTrue (list_all is_declarable (map (λ m. m.0) names)) → Some n ≡ option_map (λ m. m.0) (slice_get names k) → IsTrue (is_word_text n)
+pair_word names k n h is = named_word (map (λ m. m.0) names) k n h (is ∙ sym (slice_get-map (λ m. m.0) names k))
+
+-- the element of a loop over names, and over names with something
+pub item_word : (names : List Text) (k : ℕ) (n : Text) → IsTrue (list_all is_declarable names) → k < length names → get_or names k n ≡ n → IsTrue (is_word_text n)
+item_word names k n h lt is = named_word names k n h (sym (slice_get-get_or names k n lt ∙ ap Some is))
+
+pub item_pair_word : {A : Type 0} (names : List (Text × A)) (k : ℕ) (m : Text × A) → IsTrue (list_all is_declarable (map (λ m. m.0) names)) → k < length names → get_or names k m ≡ m → IsTrue (is_word_text m.0)
+item_pair_word names k m h lt is = pair_word names k m.0 h (ap (option_map (λ m. m.0)) (sym (slice_get-get_or names k m lt ∙ ap Some is)))
+
+-- the statuses
+pub statuses_declarable : (p : Protocol) → IsProtocol p → IsTrue (list_all is_declarable p.statuses)
+statuses_declarable p lawful = first_of _ _ (rw (list_all-append is_declarable p.statuses (map (λ m. m.0) p.messages)) at lawful.names)
+
+-- the message ids
+pub messages_declarable : (p : Protocol) → IsProtocol p → IsTrue (list_all is_declarable (map (λ m. m.0) p.messages))
+messages_declarable p lawful = second_of (list_all is_declarable p.statuses) _ (rw (list_all-append is_declarable p.statuses (map (λ m. m.0) p.messages)) at lawful.names)
+
+-- the fields of a kind
+pub fields_declarable : (p : Protocol) (kind : Kind) → IsProtocol p → IsTrue (list_all is_declarable (map (λ f. f.0) (part p kind).fields))
+fields_declarable p Root lawful = lawful.root.field_names
+fields_declarable p Mid lawful = lawful.mid.field_names
+fields_declarable p Leaf lawful = lawful.leaf.field_names
+
 -- the name of a status
 pub status_word : (p : Protocol) (k : ℕ) (n : Text) → IsProtocol p → Some n ≡ slice_get p.statuses k → IsTrue (is_word_text n)
-status_word p k n lawful is = named_word p.statuses k n (first_of _ _ (rw (list_all-append is_declarable p.statuses (map (λ m. m.0) p.messages)) at lawful.names)) is
+status_word p k n lawful is = named_word p.statuses k n (statuses_declarable p lawful) is
 
 -- the name of a rule
 pub rule_word : (p : Protocol) (k : ℕ) (n : Text) → IsProtocol p → Some n ≡ slice_get p.rule_names k → IsTrue (is_word_text n)
@@ -45,13 +70,8 @@ rule_word p k n lawful is = named_word p.rule_names k n lawful.rule_names is
 
 -- the name of a message id
 pub message_word : (p : Protocol) (k : ℕ) (n : Text) → IsProtocol p → Some n ≡ option_map (λ m. m.0) (slice_get p.messages k) → IsTrue (is_word_text n)
-message_word p k n lawful is =
-    named_word (map (λ m. m.0) p.messages) k n
-    (second_of (list_all is_declarable p.statuses) _ (rw (list_all-append is_declarable p.statuses (map (λ m. m.0) p.messages)) at lawful.names))
-    (is ∙ sym (slice_get-map (λ m. m.0) p.messages k))
+message_word p k n lawful is = pair_word p.messages k n (messages_declarable p lawful) is
 
 -- the name of a field
 pub field_word : (p : Protocol) (kind : Kind) (k : ℕ) (n : Text) → IsProtocol p → Some n ≡ option_map (λ f. f.0) (slice_get (part p kind).fields k) → IsTrue (is_word_text n)
-field_word p Root k n lawful is = named_word (map (λ f. f.0) p.root.fields) k n lawful.root.field_names (is ∙ sym (slice_get-map (λ f. f.0) p.root.fields k))
-field_word p Mid k n lawful is = named_word (map (λ f. f.0) p.mid.fields) k n lawful.mid.field_names (is ∙ sym (slice_get-map (λ f. f.0) p.mid.fields k))
-field_word p Leaf k n lawful is = named_word (map (λ f. f.0) p.leaf.fields) k n lawful.leaf.field_names (is ∙ sym (slice_get-map (λ f. f.0) p.leaf.fields k))
+field_word p kind k n lawful is = pair_word (part p kind).fields k n (fields_declarable p kind lawful) is
