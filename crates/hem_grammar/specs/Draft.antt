@@ -2,7 +2,7 @@
 use Rattle.std.specs.Prelude.{ℕ, ◌==◌, ◌&&◌, ◌||◌, Bool, true, false, not, List, [], ◌∷◌, ◌++◌, length, Option, Some, None, unwrap_or, option_map, nat_lt, nat_le, bit_or, codes, if◌then◌else◌}
 use Rattle.std.specs.List.{list_any, list_all}
 use Rattle.std.specs.Str.{bytes_eq}
-use Rattle.hem_text.specs.declared.text.TokenKind.{TokenKind}
+use Rattle.hem_text.specs.Lexemes.{Lexeme}
 use Rattle.hem_base.specs.declared.words.Reserved.{Reserved}
 use Rattle.hem_base.specs.declared.words.Reserved.TheVariants as word
 use Rattle.hem_base.specs.declared.words.Sign.{Sign}
@@ -14,7 +14,7 @@ use Rattle.hem_base.specs.declared.ids.RuleId.{RuleId}
 use Rattle.hem_text.specs.Grammars.{Grammar}
 use Rattle.hem_base.specs.Sets.{has_bit}
 use Rattle.hem_base.specs.Words.{word_bytes, sign_bytes}
-use Rattle.hem_text.specs.Spelling.{is_word, is_sign, is_number, is_the_word, is_the_sign, is_zero, is_name}
+use Rattle.hem_text.specs.Spelling.{is_word, is_the_word, is_the_sign, is_zero, is_name}
 use Rattle.hem_syntax.specs.declared.rule.Class.{Class}
 use Rattle.hem_syntax.specs.declared.rule.Class.TheVariants as class
 use Rattle.hem_syntax.specs.declared.rule.Hold.{Hold}
@@ -113,108 +113,108 @@ origin_word origin.Parent = word.Parent
 origin_word origin.Own = word.Own
 
 -- how a value is spelled
-abbrev pub spells_value : Value → TokenKind → Text → Bool
-spells_value value.Val k text = is_the_word word.Val k text
-spells_value value.Msg k text = is_the_word word.Msg k text
-spells_value value.Kept k text = is_the_word word.Kept k text
-spells_value value.Rs k text = is_the_word word.Rs k text
-spells_value value.Zero k text = is_zero k text
+abbrev pub spells_value : Value → Lexeme → Bool
+spells_value value.Val t = is_the_word word.Val t
+spells_value value.Msg t = is_the_word word.Msg t
+spells_value value.Kept t = is_the_word word.Kept t
+spells_value value.Rs t = is_the_word word.Rs t
+spells_value value.Zero t = is_zero t
 
 -- whether a token is a declared status
-abbrev pub is_status : Read → TokenKind → Text → Bool
-is_status e k text = is_word k && is_in e.statuses text
+abbrev pub is_status : Read → Lexeme → Bool
+is_status e t = is_word t && is_in e.statuses t.text
 
 -- whether a token is a declared message
-abbrev pub is_message : Read → TokenKind → Text → Bool
-is_message e k text = is_word k && is_among e.messages text
+abbrev pub is_message : Read → Lexeme → Bool
+is_message e t = is_word t && is_among e.messages t.text
 
 -- whether a token is a field of the kind that is being read
-abbrev pub is_field : Read → TokenKind → Text → Bool
-is_field e k text = is_word k && is_among e.fields text
+abbrev pub is_field : Read → Lexeme → Bool
+is_field e t = is_word t && is_among e.fields t.text
 
 -- spelling
 
 -- how the tokens of declarations are spelled
-abbrev pub part_spells : Read → Part → TokenKind → Text → Bool
-part_spells e part.Name k text = is_name k text
-part_spells e part.NewStatus k text = is_name k text
-part_spells e part.Message k text = is_the_word word.Message k text
-part_spells e part.NewMessage k text = is_name k text
-part_spells e (part.Class c) k text = is_the_word (class_word c) k text
-part_spells e part.Field k text = is_the_word word.Field k text
-part_spells e part.NewField k text = is_name k text
-part_spells e part.FieldStart k text = is_status e k text
-part_spells e part.DirStart k text = is_status e k text
-part_spells e part.EndRoot k text = is_the_word word.End k text
-part_spells e part.EndMid k text = is_the_word word.End k text
+abbrev pub part_spells : Read → Part → Lexeme → Bool
+part_spells e part.Name t = is_name t
+part_spells e part.NewStatus t = is_name t
+part_spells e part.Message t = is_the_word word.Message t
+part_spells e part.NewMessage t = is_name t
+part_spells e (part.Class c) t = is_the_word (class_word c) t
+part_spells e part.Field t = is_the_word word.Field t
+part_spells e part.NewField t = is_name t
+part_spells e part.FieldStart t = is_status e t
+part_spells e part.DirStart t = is_status e t
+part_spells e part.EndRoot t = is_the_word word.End t
+part_spells e part.EndMid t = is_the_word word.End t
 
 -- how the tokens of rules are spelled
-abbrev pub rule_spells : Read → RulePart → TokenKind → Text → Bool
-rule_spells e rule.Rule k text = is_the_word word.Rule k text
-rule_spells e rule.NewRule k text = is_name k text
-rule_spells e rule.TakeMe k text = is_the_word word.Me k text
-rule_spells e rule.TakeParent k text = is_the_word word.Parent k text
-rule_spells e rule.TakeKids k text = is_the_word word.Kids k text
-rule_spells e rule.TakeNone k text = is_the_word word.None k text
-rule_spells e rule.TakeMessage k text = is_message e k text
-rule_spells e (rule.Up h) k text = is_the_word (hold_word h) k text
-rule_spells e (rule.Down h) k text = is_the_word (hold_word h) k text
-rule_spells e rule.Free k text = is_the_word word.Free k text
-rule_spells e (rule.FreeSide s) k text = is_the_word (side_word s) k text
-rule_spells e rule.Lock k text = is_the_word word.Lock k text
-rule_spells e (rule.LockSide s) k text = is_the_word (side_word s) k text
-rule_spells e (rule.LockOrigin o) k text = is_the_word (origin_word o) k text
-rule_spells e rule.EndRule k text = is_the_word word.End k text
+abbrev pub rule_spells : Read → RulePart → Lexeme → Bool
+rule_spells e rule.Rule t = is_the_word word.Rule t
+rule_spells e rule.NewRule t = is_name t
+rule_spells e rule.TakeMe t = is_the_word word.Me t
+rule_spells e rule.TakeParent t = is_the_word word.Parent t
+rule_spells e rule.TakeKids t = is_the_word word.Kids t
+rule_spells e rule.TakeNone t = is_the_word word.None t
+rule_spells e rule.TakeMessage t = is_message e t
+rule_spells e (rule.Up h) t = is_the_word (hold_word h) t
+rule_spells e (rule.Down h) t = is_the_word (hold_word h) t
+rule_spells e rule.Free t = is_the_word word.Free t
+rule_spells e (rule.FreeSide s) t = is_the_word (side_word s) t
+rule_spells e rule.Lock t = is_the_word word.Lock t
+rule_spells e (rule.LockSide s) t = is_the_word (side_word s) t
+rule_spells e (rule.LockOrigin o) t = is_the_word (origin_word o) t
+rule_spells e rule.EndRule t = is_the_word word.End t
 
 -- how the tokens of guards are spelled
-abbrev pub atom_spells : Read → AtomPart → TokenKind → Text → Bool
-atom_spells e atom.When k text = is_the_word word.When k text
-atom_spells e atom.Comma k text = is_the_sign sign.Comma k text
-atom_spells e atom.Field k text = is_field e k text
-atom_spells e atom.Me k text = is_the_word word.Me k text
-atom_spells e atom.Kids k text = is_the_word word.Kids k text
-atom_spells e atom.Others k text = is_the_word word.Others k text
-atom_spells e atom.Asked k text = is_the_word word.Asked k text
-atom_spells e atom.KidsAll k text = is_the_word word.All k text
-atom_spells e atom.KidsAny k text = is_the_word word.Any k text
-atom_spells e atom.OthersAll k text = is_the_word word.All k text
-atom_spells e atom.OthersAny k text = is_the_word word.Any k text
-atom_spells e atom.Status k text = is_status e k text
-atom_spells e atom.More k text = is_status e k text
-atom_spells e atom.Message k text = is_message e k text
+abbrev pub atom_spells : Read → AtomPart → Lexeme → Bool
+atom_spells e atom.When t = is_the_word word.When t
+atom_spells e atom.Comma t = is_the_sign sign.Comma t
+atom_spells e atom.Field t = is_field e t
+atom_spells e atom.Me t = is_the_word word.Me t
+atom_spells e atom.Kids t = is_the_word word.Kids t
+atom_spells e atom.Others t = is_the_word word.Others t
+atom_spells e atom.Asked t = is_the_word word.Asked t
+atom_spells e atom.KidsAll t = is_the_word word.All t
+atom_spells e atom.KidsAny t = is_the_word word.Any t
+atom_spells e atom.OthersAll t = is_the_word word.All t
+atom_spells e atom.OthersAny t = is_the_word word.Any t
+atom_spells e atom.Status t = is_status e t
+atom_spells e atom.More t = is_status e t
+atom_spells e atom.Message t = is_message e t
 
 -- how the tokens of sets are spelled
-abbrev pub assign_spells : Read → AssignPart → TokenKind → Text → Bool
-assign_spells e assign.Set k text = is_the_word word.Set k text
-assign_spells e assign.Comma k text = is_the_sign sign.Comma k text
-assign_spells e assign.Field k text = is_field e k text
-assign_spells e assign.Val k text = is_the_word word.Val k text
-assign_spells e assign.Me k text = is_the_word word.Me k text
-assign_spells e assign.Targets k text = is_the_word word.Targets k text
-assign_spells e assign.Status k text = is_status e k text
-assign_spells e (assign.Value v) k text = spells_value v k text
+abbrev pub assign_spells : Read → AssignPart → Lexeme → Bool
+assign_spells e assign.Set t = is_the_word word.Set t
+assign_spells e assign.Comma t = is_the_sign sign.Comma t
+assign_spells e assign.Field t = is_field e t
+assign_spells e assign.Val t = is_the_word word.Val t
+assign_spells e assign.Me t = is_the_word word.Me t
+assign_spells e assign.Targets t = is_the_word word.Targets t
+assign_spells e assign.Status t = is_status e t
+assign_spells e (assign.Value v) t = spells_value v t
 
 -- how the tokens of sends are spelled
-abbrev pub send_spells : Read → SendPart → TokenKind → Text → Bool
-send_spells e send.Send k text = is_the_word word.Send k text
-send_spells e send.Me k text = is_the_word word.Me k text
-send_spells e send.Parent k text = is_the_word word.Parent k text
-send_spells e send.Kids k text = is_the_word word.Kids k text
-send_spells e send.Others k text = is_the_word word.Others k text
-send_spells e send.Status k text = is_status e k text
-send_spells e send.More k text = is_status e k text
-send_spells e send.Message k text = is_message e k text
-send_spells e (send.Value v) k text = spells_value v k text
+abbrev pub send_spells : Read → SendPart → Lexeme → Bool
+send_spells e send.Send t = is_the_word word.Send t
+send_spells e send.Me t = is_the_word word.Me t
+send_spells e send.Parent t = is_the_word word.Parent t
+send_spells e send.Kids t = is_the_word word.Kids t
+send_spells e send.Others t = is_the_word word.Others t
+send_spells e send.Status t = is_status e t
+send_spells e send.More t = is_status e t
+send_spells e send.Message t = is_message e t
+send_spells e (send.Value v) t = spells_value v t
 
 -- how a token is spelled; a used name is declared
-abbrev pub spells : Read → Terminal → TokenKind → Text → Bool
-spells e (the.Word w) k text = is_the_word w k text
-spells e (the.Sign s) k text = is_the_sign s k text
-spells e (the.Part x) k text = part_spells e x k text
-spells e (the.Rule x) k text = rule_spells e x k text
-spells e (the.Atom x) k text = atom_spells e x k text
-spells e (the.Assign x) k text = assign_spells e x k text
-spells e (the.Send x) k text = send_spells e x k text
+abbrev pub spells : Read → Terminal → Lexeme → Bool
+spells e (the.Word w) t = is_the_word w t
+spells e (the.Sign s) t = is_the_sign s t
+spells e (the.Part x) t = part_spells e x t
+spells e (the.Rule x) t = rule_spells e x t
+spells e (the.Atom x) t = atom_spells e x t
+spells e (the.Assign x) t = assign_spells e x t
+spells e (the.Send x) t = send_spells e x t
 
 -- limits
 
@@ -541,8 +541,7 @@ grammar = record {
   firsts = firsts;
   follows = follows;
   stands = stands;
-  is_name = λ t. is_name t.kind t.text;
-  spells = λ e x t. spells e x t.kind t.text;
+  spells = spells;
   is_within = λ e x t. is_within e x t.text;
   is_fresh = λ e x t. is_fresh e x t.text;
   after = λ e x t. after e x t.text;

@@ -8,20 +8,20 @@ ghost use Rattle.hem_grammar.specs.Draft.{assign_spells, assign_within, assign_f
 use crate::draft::Draft;
 use crate::last::{last_assign, set_last_assign};
 use crate::sets::assign_with;
-use crate::words::{is_the_sign, is_the_word, spells_value, value_stands};
+use crate::words::{spells_value, value_stands};
 use hem_base::{OutOfMemory, Reserved, Sign, Status8};
-use hem_text::{Stands, Symbol, TokenKind};
-use hem_syntax::{Assign, Value};
 use hem_grammar::{AssignPart, Item, Terminal};
+use hem_syntax::{Assign, Value};
+use hem_text::{Lexeme, Stands, Symbol};
 
 /// How many sets a rule may have.
 const MOST_SETS: usize = 8;
 
 /// What must follow a token of the sets.
-pub fn assign_follows(token: AssignPart) -> &'static [Symbol<Terminal, Item>]
-    ensures { result.now ≡ assign_follows token }
+pub fn assign_follows(part: AssignPart) -> &'static [Symbol<Terminal, Item>]
+    ensures { result.now ≡ assign_follows part }
 {
-    match token {
+    match part {
         AssignPart::Set => &[Symbol::Item(Item::Assign), Symbol::Many(Item::MoreAssigns)],
         AssignPart::Comma => &[Symbol::Item(Item::Assign)],
         AssignPart::Field => &[
@@ -41,10 +41,10 @@ pub fn assign_follows(token: AssignPart) -> &'static [Symbol<Terminal, Item>]
 }
 
 /// Whether the token is a reserved word, a used name or something else.
-pub fn assign_stands(token: AssignPart) -> Stands
-    ensures { result ≡ assign_stands token }
+pub fn assign_stands(part: AssignPart) -> Stands
+    ensures { result ≡ assign_stands part }
 {
-    match token {
+    match part {
         AssignPart::Field | AssignPart::Status => Stands::Used,
         AssignPart::Comma => Stands::Other,
         AssignPart::Value(value) => value_stands(value),
@@ -113,25 +113,25 @@ fn any_sets_targets(sets: &[Assign]) -> bool
 }
 
 impl Draft {
-    pub(crate) fn assign_spells(&self, token: AssignPart, kind: TokenKind, text: &[u8]) -> bool
-        ensures { result ≡ assign_spells self.now token kind text.now }
+    pub(crate) fn assign_spells(&self, part: AssignPart, token: &Lexeme<'_>) -> bool
+        ensures { result ≡ assign_spells self.now part token.now }
     {
-        match token {
-            AssignPart::Set => is_the_word(Reserved::Set, kind, text),
-            AssignPart::Comma => is_the_sign(Sign::Comma, kind, text),
-            AssignPart::Field => self.is_field(kind, text),
-            AssignPart::Val => is_the_word(Reserved::Val, kind, text),
-            AssignPart::Me => is_the_word(Reserved::Me, kind, text),
-            AssignPart::Targets => is_the_word(Reserved::Targets, kind, text),
-            AssignPart::Status => self.is_status(kind, text),
-            AssignPart::Value(value) => spells_value(value, kind, text),
+        match part {
+            AssignPart::Set => token.is_the_word(Reserved::Set),
+            AssignPart::Comma => token.is_the_sign(Sign::Comma),
+            AssignPart::Field => self.is_field(token),
+            AssignPart::Val => token.is_the_word(Reserved::Val),
+            AssignPart::Me => token.is_the_word(Reserved::Me),
+            AssignPart::Targets => token.is_the_word(Reserved::Targets),
+            AssignPart::Status => self.is_status(token),
+            AssignPart::Value(value) => spells_value(value, token),
         }
     }
 
-    pub(crate) fn assign_within(&self, token: AssignPart) -> bool
-        ensures { result ≡ assign_within self.now token }
+    pub(crate) fn assign_within(&self, part: AssignPart) -> bool
+        ensures { result ≡ assign_within self.now part }
     {
-        match token {
+        match part {
             AssignPart::Field | AssignPart::Val | AssignPart::Me | AssignPart::Targets => {
                 self.rule.sets.len() < MOST_SETS
             }
@@ -139,11 +139,11 @@ impl Draft {
         }
     }
 
-    pub(crate) fn assign_fresh(&self, token: AssignPart, text: &[u8]) -> bool
-        ensures { result ≡ assign_fresh self.now token text.now }
+    pub(crate) fn assign_fresh(&self, part: AssignPart, text: &[u8]) -> bool
+        ensures { result ≡ assign_fresh self.now part text.now }
     {
         let sets = self.rule.sets.as_slice();
-        match token {
+        match part {
             AssignPart::Field => !any_sets_field(sets, self.field(text)),
             AssignPart::Val => !any_sets_val(sets),
             AssignPart::Me => !any_sets_me(sets),
@@ -152,11 +152,11 @@ impl Draft {
         }
     }
 
-    pub(crate) fn read_assign(&mut self, token: AssignPart, text: &[u8]) -> Result<(), OutOfMemory>
-        ensures { OnOk result (self.new ≡ record self.old { rule = assign_said self.old token text.now }) }
+    pub(crate) fn read_assign(&mut self, part: AssignPart, text: &[u8]) -> Result<(), OutOfMemory>
+        ensures { OnOk result (self.new ≡ record self.old { rule = assign_said self.old part text.now }) }
     {
         let first = Status8(0);
-        match token {
+        match part {
             AssignPart::Field => {
                 let field = self.field(text);
                 self.rule.sets.push(Assign::Field(field, first))?;

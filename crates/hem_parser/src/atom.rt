@@ -7,20 +7,19 @@ ghost use Rattle.hem_grammar.specs.Draft.{atom_spells, atom_within, atom_fresh, 
 use crate::draft::Draft;
 use crate::last::{last_atom, set_last_atom};
 use crate::sets::{atom_set, atom_with};
-use crate::words::{is_the_sign, is_the_word};
 use hem_base::{MsgId, OutOfMemory, Reserved, Sign, StatusSet};
-use hem_text::{Stands, Symbol, TokenKind};
-use hem_syntax::Atom;
 use hem_grammar::{AtomPart, Item, Terminal};
+use hem_syntax::Atom;
+use hem_text::{Lexeme, Stands, Symbol};
 
 /// How many atoms a guard may have.
 const MOST_ATOMS: usize = 16;
 
 /// What must follow a token of a guard.
-pub fn atom_follows(token: AtomPart) -> &'static [Symbol<Terminal, Item>]
-    ensures { result.now ≡ atom_follows token }
+pub fn atom_follows(part: AtomPart) -> &'static [Symbol<Terminal, Item>]
+    ensures { result.now ≡ atom_follows part }
 {
-    match token {
+    match part {
         AtomPart::When => &[Symbol::Item(Item::Atom), Symbol::Many(Item::MoreAtoms)],
         AtomPart::Comma => &[Symbol::Item(Item::Atom)],
         AtomPart::Field | AtomPart::Me => &[
@@ -44,10 +43,10 @@ pub fn atom_follows(token: AtomPart) -> &'static [Symbol<Terminal, Item>]
 }
 
 /// Whether the token is a reserved word, a used name or something else.
-pub fn atom_stands(token: AtomPart) -> Stands
-    ensures { result ≡ atom_stands token }
+pub fn atom_stands(part: AtomPart) -> Stands
+    ensures { result ≡ atom_stands part }
 {
-    match token {
+    match part {
         AtomPart::Field | AtomPart::Status | AtomPart::More | AtomPart::Message => Stands::Used,
         AtomPart::Comma => Stands::Other,
         _ => Stands::Reserved,
@@ -55,38 +54,38 @@ pub fn atom_stands(token: AtomPart) -> Stands
 }
 
 impl Draft {
-    pub(crate) fn atom_spells(&self, token: AtomPart, kind: TokenKind, text: &[u8]) -> bool
-        ensures { result ≡ atom_spells self.now token kind text.now }
+    pub(crate) fn atom_spells(&self, part: AtomPart, token: &Lexeme<'_>) -> bool
+        ensures { result ≡ atom_spells self.now part token.now }
     {
-        match token {
-            AtomPart::When => is_the_word(Reserved::When, kind, text),
-            AtomPart::Comma => is_the_sign(Sign::Comma, kind, text),
-            AtomPart::Field => self.is_field(kind, text),
-            AtomPart::Me => is_the_word(Reserved::Me, kind, text),
-            AtomPart::Kids => is_the_word(Reserved::Kids, kind, text),
-            AtomPart::Others => is_the_word(Reserved::Others, kind, text),
-            AtomPart::Asked => is_the_word(Reserved::Asked, kind, text),
-            AtomPart::KidsAll | AtomPart::OthersAll => is_the_word(Reserved::All, kind, text),
-            AtomPart::KidsAny | AtomPart::OthersAny => is_the_word(Reserved::Any, kind, text),
-            AtomPart::Status | AtomPart::More => self.is_status(kind, text),
-            AtomPart::Message => self.is_message(kind, text),
+        match part {
+            AtomPart::When => token.is_the_word(Reserved::When),
+            AtomPart::Comma => token.is_the_sign(Sign::Comma),
+            AtomPart::Field => self.is_field(token),
+            AtomPart::Me => token.is_the_word(Reserved::Me),
+            AtomPart::Kids => token.is_the_word(Reserved::Kids),
+            AtomPart::Others => token.is_the_word(Reserved::Others),
+            AtomPart::Asked => token.is_the_word(Reserved::Asked),
+            AtomPart::KidsAll | AtomPart::OthersAll => token.is_the_word(Reserved::All),
+            AtomPart::KidsAny | AtomPart::OthersAny => token.is_the_word(Reserved::Any),
+            AtomPart::Status | AtomPart::More => self.is_status(token),
+            AtomPart::Message => self.is_message(token),
         }
     }
 
-    pub(crate) fn atom_within(&self, token: AtomPart) -> bool
-        ensures { result ≡ atom_within self.now token }
+    pub(crate) fn atom_within(&self, part: AtomPart) -> bool
+        ensures { result ≡ atom_within self.now part }
     {
-        match token {
+        match part {
             AtomPart::Field | AtomPart::Me | AtomPart::Kids | AtomPart::Others | AtomPart::Asked =>
                 self.rule.guard.len() < MOST_ATOMS,
             _ => true,
         }
     }
 
-    pub(crate) fn atom_fresh(&self, token: AtomPart, text: &[u8]) -> bool
-        ensures { result ≡ atom_fresh self.now token text.now }
+    pub(crate) fn atom_fresh(&self, part: AtomPart, text: &[u8]) -> bool
+        ensures { result ≡ atom_fresh self.now part text.now }
     {
-        match token {
+        match part {
             AtomPart::More => {
                 let set = atom_set(last_atom(&self.rule.guard));
                 !set.has(self.status(text))
@@ -95,11 +94,11 @@ impl Draft {
         }
     }
 
-    pub(crate) fn read_atom(&mut self, token: AtomPart, text: &[u8]) -> Result<(), OutOfMemory>
-        ensures { OnOk result (self.new ≡ record self.old { rule = atom_said self.old token text.now }) }
+    pub(crate) fn read_atom(&mut self, part: AtomPart, text: &[u8]) -> Result<(), OutOfMemory>
+        ensures { OnOk result (self.new ≡ record self.old { rule = atom_said self.old part text.now }) }
     {
         let none = StatusSet(0);
-        match token {
+        match part {
             AtomPart::Field => {
                 let field = self.field(text);
                 self.rule.guard.push(Atom::Field(field, none))?;

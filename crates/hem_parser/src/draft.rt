@@ -4,10 +4,9 @@ ghost use Rattle.std.specs.Prelude.{◌≡◌, IfOk, IsTrue, [], None};
 ghost use Rattle.hem_syntax.specs.Protocol.{empty_part};
 ghost use Rattle.hem_grammar.specs.Draft.{is_short, status, message, field, rule_id, is_status, is_message, is_field, is_among, place_among, no_rule, nothing, kind_read};
 
-use crate::words::is_word;
 use hem_base::{List, MsgId, Name, OutOfMemory, RuleId, Status8};
-use hem_text::TokenKind;
 use hem_syntax::{Class, Hold, KindPart, Named, Names, Need, Rule, SendTo, Take};
+use hem_text::Lexeme;
 use std::alloc::Global;
 use std::marker::Model;
 use std::mem;
@@ -160,22 +159,22 @@ impl Draft {
         }
     }
 
-    pub(crate) fn is_status(&self, kind: TokenKind, text: &[u8]) -> bool
-        ensures { result ≡ is_status self.now kind text.now }
+    pub(crate) fn is_status(&self, token: &Lexeme<'_>) -> bool
+        ensures { result ≡ is_status self.now token.now }
     {
-        is_word(kind) && self.statuses.has(text)
+        token.is_word() && self.statuses.has(token.text())
     }
 
-    pub(crate) fn is_message(&self, kind: TokenKind, text: &[u8]) -> bool
-        ensures { result ≡ is_message self.now kind text.now }
+    pub(crate) fn is_message(&self, token: &Lexeme<'_>) -> bool
+        ensures { result ≡ is_message self.now token.now }
     {
-        is_word(kind) && self.messages.has(text)
+        token.is_word() && self.messages.has(token.text())
     }
 
-    pub(crate) fn is_field(&self, kind: TokenKind, text: &[u8]) -> bool
-        ensures { result ≡ is_field self.now kind text.now }
+    pub(crate) fn is_field(&self, token: &Lexeme<'_>) -> bool
+        ensures { result ≡ is_field self.now token.now }
     {
-        is_word(kind) && is_among(self.fields.as_slice(), text)
+        token.is_word() && is_among(self.fields.as_slice(), token.text())
     }
 
     /// Takes out the kind that has been read.

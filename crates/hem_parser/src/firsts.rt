@@ -4,9 +4,9 @@ ghost use Rattle.std.specs.Prelude.{◌≡◌};
 ghost use Rattle.hem_grammar.specs.Grammar.{start, firsts};
 
 use hem_base::Reserved;
-use hem_text::Symbol;
 use hem_grammar::{AssignPart, AtomPart, Item, Part, RulePart, SendPart, Terminal};
 use hem_syntax::{Class, Hold, Origin, Side, Value};
+use hem_text::Symbol;
 
 /// The words of the classes.
 const CLASSES: &[Terminal] = &[

@@ -9,11 +9,9 @@ use crate::firsts::firsts;
 use crate::part::{part_follows, part_stands};
 use crate::rule_part::{rule_follows, rule_stands};
 use crate::send::{send_follows, send_stands};
-use crate::words::{is_the_sign, is_the_word};
 use hem_base::OutOfMemory;
-use hem_text::{Place, Stands, Symbol, TokenKind, is_name};
 use hem_grammar::{Item, Terminal};
-use hem_text::Language;
+use hem_text::{Language, Lexeme, Stands, Symbol};
 
 impl Language for Draft {
     type Terminal = Terminal;
@@ -29,11 +27,11 @@ impl Language for Draft {
     fn follows(terminal: Terminal) -> &'static [Symbol<Terminal, Item>] {
         match terminal {
             Terminal::Word(_) | Terminal::Sign(_) => &[],
-            Terminal::Part(token) => part_follows(token),
-            Terminal::Rule(token) => rule_follows(token),
-            Terminal::Atom(token) => atom_follows(token),
-            Terminal::Assign(token) => assign_follows(token),
-            Terminal::Send(token) => send_follows(token),
+            Terminal::Part(part) => part_follows(part),
+            Terminal::Rule(part) => rule_follows(part),
+            Terminal::Atom(part) => atom_follows(part),
+            Terminal::Assign(part) => assign_follows(part),
+            Terminal::Send(part) => send_follows(part),
         }
     }
 
@@ -41,65 +39,55 @@ impl Language for Draft {
         match terminal {
             Terminal::Word(_) => Stands::Reserved,
             Terminal::Sign(_) => Stands::Other,
-            Terminal::Part(token) => part_stands(token),
-            Terminal::Rule(token) => rule_stands(token),
-            Terminal::Atom(token) => atom_stands(token),
-            Terminal::Assign(token) => assign_stands(token),
-            Terminal::Send(token) => send_stands(token),
+            Terminal::Part(part) => part_stands(part),
+            Terminal::Rule(part) => rule_stands(part),
+            Terminal::Atom(part) => atom_stands(part),
+            Terminal::Assign(part) => assign_stands(part),
+            Terminal::Send(part) => send_stands(part),
         }
     }
 
-    fn is_name(kind: TokenKind, text: &[u8], _place: Place) -> bool {
-        is_name(kind, text)
-    }
-
-    fn spells(&self, terminal: Terminal, kind: TokenKind, text: &[u8], _place: Place) -> bool {
+    fn spells(&self, terminal: Terminal, token: &Lexeme<'_>) -> bool {
         match terminal {
-            Terminal::Word(word) => is_the_word(word, kind, text),
-            Terminal::Sign(sign) => is_the_sign(sign, kind, text),
-            Terminal::Part(token) => self.part_spells(token, kind, text),
-            Terminal::Rule(token) => self.rule_spells(token, kind, text),
-            Terminal::Atom(token) => self.atom_spells(token, kind, text),
-            Terminal::Assign(token) => self.assign_spells(token, kind, text),
-            Terminal::Send(token) => self.send_spells(token, kind, text),
+            Terminal::Word(word) => token.is_the_word(word),
+            Terminal::Sign(sign) => token.is_the_sign(sign),
+            Terminal::Part(part) => self.part_spells(part, token),
+            Terminal::Rule(part) => self.rule_spells(part, token),
+            Terminal::Atom(part) => self.atom_spells(part, token),
+            Terminal::Assign(part) => self.assign_spells(part, token),
+            Terminal::Send(part) => self.send_spells(part, token),
         }
     }
 
-    fn is_within(&self, terminal: Terminal, _kind: TokenKind, text: &[u8], _place: Place) -> bool {
+    fn is_within(&self, terminal: Terminal, token: &Lexeme<'_>) -> bool {
         match terminal {
-            Terminal::Part(token) => self.part_within(token, text),
-            Terminal::Rule(token) => self.rule_within(token, text),
-            Terminal::Atom(token) => self.atom_within(token),
-            Terminal::Assign(token) => self.assign_within(token),
+            Terminal::Part(part) => self.part_within(part, token.text()),
+            Terminal::Rule(part) => self.rule_within(part, token.text()),
+            Terminal::Atom(part) => self.atom_within(part),
+            Terminal::Assign(part) => self.assign_within(part),
             Terminal::Word(_) | Terminal::Sign(_) | Terminal::Send(_) => true,
         }
     }
 
-    fn is_fresh(&self, terminal: Terminal, _kind: TokenKind, text: &[u8], _place: Place) -> bool {
+    fn is_fresh(&self, terminal: Terminal, token: &Lexeme<'_>) -> bool {
         match terminal {
-            Terminal::Part(token) => self.part_fresh(token, text),
-            Terminal::Rule(token) => self.rule_fresh(token, text),
-            Terminal::Atom(token) => self.atom_fresh(token, text),
-            Terminal::Assign(token) => self.assign_fresh(token, text),
-            Terminal::Send(token) => self.send_fresh(token, text),
+            Terminal::Part(part) => self.part_fresh(part, token.text()),
+            Terminal::Rule(part) => self.rule_fresh(part, token.text()),
+            Terminal::Atom(part) => self.atom_fresh(part, token.text()),
+            Terminal::Assign(part) => self.assign_fresh(part, token.text()),
+            Terminal::Send(part) => self.send_fresh(part, token.text()),
             Terminal::Word(_) | Terminal::Sign(_) => true,
         }
     }
 
-    fn read(
-        &mut self,
-        terminal: Terminal,
-        _kind: TokenKind,
-        text: &[u8],
-        _place: Place,
-    ) -> Result<(), OutOfMemory> {
+    fn read(&mut self, terminal: Terminal, token: &Lexeme<'_>) -> Result<(), OutOfMemory> {
         match terminal {
             Terminal::Word(_) | Terminal::Sign(_) => {}
-            Terminal::Part(token) => self.read_part(token, text)?,
-            Terminal::Rule(token) => self.read_rule(token, text)?,
-            Terminal::Atom(token) => self.read_atom(token, text)?,
-            Terminal::Assign(token) => self.read_assign(token, text)?,
-            Terminal::Send(token) => self.read_send(token, text),
+            Terminal::Part(part) => self.read_part(part, token.text())?,
+            Terminal::Rule(part) => self.read_rule(part, token.text())?,
+            Terminal::Atom(part) => self.read_atom(part, token.text())?,
+            Terminal::Assign(part) => self.read_assign(part, token.text())?,
+            Terminal::Send(part) => self.read_send(part, token.text()),
         }
         Ok(())
     }

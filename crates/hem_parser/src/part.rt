@@ -6,11 +6,11 @@ ghost use Rattle.hem_grammar.specs.Draft.{part_spells, part_within, part_fresh, 
 
 use crate::draft::{Draft, is_among, name_of};
 use crate::last::set_start;
-use crate::words::{class_word, is_short, is_the_word};
+use crate::words::is_short;
 use hem_base::{OutOfMemory, Reserved, Status8};
-use hem_text::{Stands, Symbol, TokenKind, is_name};
+use hem_grammar::{Item, Part, Terminal, class_word};
 use hem_syntax::Class;
-use hem_grammar::{Item, Part, Terminal};
+use hem_text::{Lexeme, Stands, Symbol};
 
 /// How many statuses a protocol may have.
 const MOST_STATUSES: usize = 4;
@@ -22,10 +22,10 @@ const MOST_MESSAGES: usize = 64;
 const MOST_FIELDS: usize = 3;
 
 /// What must follow a token of a declaration.
-pub fn part_follows(token: Part) -> &'static [Symbol<Terminal, Item>]
-    ensures { result.now ≡ part_follows token }
+pub fn part_follows(part: Part) -> &'static [Symbol<Terminal, Item>]
+    ensures { result.now ≡ part_follows part }
 {
-    match token {
+    match part {
         Part::Message => &[
             Symbol::One(Terminal::Part(Part::NewMessage)),
             Symbol::Item(Item::Classes),
@@ -40,10 +40,10 @@ pub fn part_follows(token: Part) -> &'static [Symbol<Terminal, Item>]
 }
 
 /// Whether the token is a reserved word, a used name or something else.
-pub fn part_stands(token: Part) -> Stands
-    ensures { result ≡ part_stands token }
+pub fn part_stands(part: Part) -> Stands
+    ensures { result ≡ part_stands part }
 {
-    match token {
+    match part {
         Part::FieldStart | Part::DirStart => Stands::Used,
         Part::Name | Part::NewStatus | Part::NewMessage | Part::NewField => Stands::Other,
         _ => Stands::Reserved,
@@ -51,23 +51,23 @@ pub fn part_stands(token: Part) -> Stands
 }
 
 impl Draft {
-    pub(crate) fn part_spells(&self, token: Part, kind: TokenKind, text: &[u8]) -> bool
-        ensures { result ≡ part_spells self.now token kind text.now }
+    pub(crate) fn part_spells(&self, part: Part, token: &Lexeme<'_>) -> bool
+        ensures { result ≡ part_spells self.now part token.now }
     {
-        match token {
-            Part::Name | Part::NewStatus | Part::NewMessage | Part::NewField => is_name(kind, text),
-            Part::Message => is_the_word(Reserved::Message, kind, text),
-            Part::Class(class) => is_the_word(class_word(class), kind, text),
-            Part::Field => is_the_word(Reserved::Field, kind, text),
-            Part::FieldStart | Part::DirStart => self.is_status(kind, text),
-            Part::EndRoot | Part::EndMid => is_the_word(Reserved::End, kind, text),
+        match part {
+            Part::Name | Part::NewStatus | Part::NewMessage | Part::NewField => token.is_name(),
+            Part::Message => token.is_the_word(Reserved::Message),
+            Part::Class(class) => token.is_the_word(class_word(class)),
+            Part::Field => token.is_the_word(Reserved::Field),
+            Part::FieldStart | Part::DirStart => self.is_status(token),
+            Part::EndRoot | Part::EndMid => token.is_the_word(Reserved::End),
         }
     }
 
-    pub(crate) fn part_within(&self, token: Part, text: &[u8]) -> bool
-        ensures { result ≡ part_within self.now token text.now }
+    pub(crate) fn part_within(&self, part: Part, text: &[u8]) -> bool
+        ensures { result ≡ part_within self.now part text.now }
     {
-        match token {
+        match part {
             Part::Name => is_short(text),
             Part::NewStatus => is_short(text) && self.statuses.len() < MOST_STATUSES,
             Part::Message => self.messages.len() < MOST_MESSAGES,
@@ -78,10 +78,10 @@ impl Draft {
         }
     }
 
-    pub(crate) fn part_fresh(&self, token: Part, text: &[u8]) -> bool
-        ensures { result ≡ part_fresh self.now token text.now }
+    pub(crate) fn part_fresh(&self, part: Part, text: &[u8]) -> bool
+        ensures { result ≡ part_fresh self.now part text.now }
     {
-        match token {
+        match part {
             Part::NewStatus | Part::NewMessage => {
                 !(self.statuses.has(text) || self.messages.has(text))
             }
@@ -90,12 +90,12 @@ impl Draft {
         }
     }
 
-    pub(crate) fn read_part(&mut self, token: Part, text: &[u8]) -> Result<(), OutOfMemory>
-        requires within { IsTrue (part_within self.old token text.now) }
-        requires fresh { IsTrue (part_fresh self.old token text.now) }
-        ensures { OnOk result (self.new ≡ part_after self.old token text.now) }
+    pub(crate) fn read_part(&mut self, part: Part, text: &[u8]) -> Result<(), OutOfMemory>
+        requires within { IsTrue (part_within self.old part text.now) }
+        requires fresh { IsTrue (part_fresh self.old part text.now) }
+        ensures { OnOk result (self.new ≡ part_after self.old part text.now) }
     {
-        match token {
+        match part {
             Part::Name => self.name = name_of(text),
             Part::NewStatus => self.statuses.push(name_of(text))?,
             Part::NewMessage => self.messages.push(name_of(text), Class::ExtReq)?,

@@ -8,20 +8,20 @@ ghost use Rattle.hem_grammar.specs.Draft.{rule_spells, rule_within, rule_fresh, 
 
 use crate::draft::{Draft, name_of};
 use crate::sets::take_with;
-use crate::words::{hold_word, is_short, is_the_word, origin_word, side_word};
+use crate::words::is_short;
 use hem_base::{MsgId, OutOfMemory, Reserved};
-use hem_text::{Stands, Symbol, TokenKind, is_name};
-use hem_grammar::{Item, RulePart, Terminal};
+use hem_grammar::{Item, RulePart, Terminal, hold_word, origin_word, side_word};
 use hem_syntax::{Origin, Rule, Take};
+use hem_text::{Lexeme, Stands, Symbol};
 
 /// How many rules a kind may have.
 const MOST_RULES: usize = 64;
 
 /// What must follow a token of a rule.
-pub fn rule_follows(token: RulePart) -> &'static [Symbol<Terminal, Item>]
-    ensures { result.now ≡ rule_follows token }
+pub fn rule_follows(part: RulePart) -> &'static [Symbol<Terminal, Item>]
+    ensures { result.now ≡ rule_follows part }
 {
-    match token {
+    match part {
         RulePart::Rule => &[
             Symbol::One(Terminal::Rule(RulePart::NewRule)),
             Symbol::One(Terminal::Word(Reserved::Take)),
@@ -48,10 +48,10 @@ pub fn rule_follows(token: RulePart) -> &'static [Symbol<Terminal, Item>]
 }
 
 /// Whether the token is a reserved word, a used name or something else.
-pub fn rule_stands(token: RulePart) -> Stands
-    ensures { result ≡ rule_stands token }
+pub fn rule_stands(part: RulePart) -> Stands
+    ensures { result ≡ rule_stands part }
 {
-    match token {
+    match part {
         RulePart::TakeMessage => Stands::Used,
         RulePart::NewRule => Stands::Other,
         _ => Stands::Reserved,
@@ -66,42 +66,42 @@ fn is_named(rules: &[Rule], name: usize) -> bool
 }
 
 impl Draft {
-    pub(crate) fn rule_spells(&self, token: RulePart, kind: TokenKind, text: &[u8]) -> bool
-        ensures { result ≡ rule_spells self.now token kind text.now }
+    pub(crate) fn rule_spells(&self, part: RulePart, token: &Lexeme<'_>) -> bool
+        ensures { result ≡ rule_spells self.now part token.now }
     {
-        match token {
-            RulePart::Rule => is_the_word(Reserved::Rule, kind, text),
-            RulePart::NewRule => is_name(kind, text),
-            RulePart::TakeMe => is_the_word(Reserved::Me, kind, text),
-            RulePart::TakeParent => is_the_word(Reserved::Parent, kind, text),
-            RulePart::TakeKids => is_the_word(Reserved::Kids, kind, text),
-            RulePart::TakeNone => is_the_word(Reserved::None, kind, text),
-            RulePart::TakeMessage => self.is_message(kind, text),
-            RulePart::Up(hold) | RulePart::Down(hold) => is_the_word(hold_word(hold), kind, text),
-            RulePart::Free => is_the_word(Reserved::Free, kind, text),
+        match part {
+            RulePart::Rule => token.is_the_word(Reserved::Rule),
+            RulePart::NewRule => token.is_name(),
+            RulePart::TakeMe => token.is_the_word(Reserved::Me),
+            RulePart::TakeParent => token.is_the_word(Reserved::Parent),
+            RulePart::TakeKids => token.is_the_word(Reserved::Kids),
+            RulePart::TakeNone => token.is_the_word(Reserved::None),
+            RulePart::TakeMessage => self.is_message(token),
+            RulePart::Up(hold) | RulePart::Down(hold) => token.is_the_word(hold_word(hold)),
+            RulePart::Free => token.is_the_word(Reserved::Free),
             RulePart::FreeSide(side) | RulePart::LockSide(side) => {
-                is_the_word(side_word(side), kind, text)
+                token.is_the_word(side_word(side))
             }
-            RulePart::Lock => is_the_word(Reserved::Lock, kind, text),
-            RulePart::LockOrigin(origin) => is_the_word(origin_word(origin), kind, text),
-            RulePart::EndRule => is_the_word(Reserved::End, kind, text),
+            RulePart::Lock => token.is_the_word(Reserved::Lock),
+            RulePart::LockOrigin(origin) => token.is_the_word(origin_word(origin)),
+            RulePart::EndRule => token.is_the_word(Reserved::End),
         }
     }
 
-    pub(crate) fn rule_within(&self, token: RulePart, text: &[u8]) -> bool
-        ensures { result ≡ rule_within self.now token text.now }
+    pub(crate) fn rule_within(&self, part: RulePart, text: &[u8]) -> bool
+        ensures { result ≡ rule_within self.now part text.now }
     {
-        match token {
+        match part {
             RulePart::Rule => self.rules.len() < MOST_RULES,
             RulePart::NewRule => is_short(text),
             _ => true,
         }
     }
 
-    pub(crate) fn rule_fresh(&self, token: RulePart, text: &[u8]) -> bool
-        ensures { result ≡ rule_fresh self.now token text.now }
+    pub(crate) fn rule_fresh(&self, part: RulePart, text: &[u8]) -> bool
+        ensures { result ≡ rule_fresh self.now part text.now }
     {
-        match token {
+        match part {
             RulePart::NewRule => !is_named(self.rules.as_slice(), self.rule_place(text)),
             _ => true,
         }
@@ -119,11 +119,11 @@ impl Draft {
         Ok(())
     }
 
-    pub(crate) fn read_rule(&mut self, token: RulePart, text: &[u8]) -> Result<(), OutOfMemory>
-        requires { IsTrue (rule_within self.old token text.now) }
-        ensures { OnOk result (self.new ≡ rule_after self.old token text.now) }
+    pub(crate) fn read_rule(&mut self, part: RulePart, text: &[u8]) -> Result<(), OutOfMemory>
+        requires { IsTrue (rule_within self.old part text.now) }
+        ensures { OnOk result (self.new ≡ rule_after self.old part text.now) }
     {
-        match token {
+        match part {
             RulePart::NewRule => self.read_name(text)?,
             RulePart::TakeMe => self.rule.take = Take::Me(MsgId(0)),
             RulePart::TakeParent => self.rule.take = Take::Parent(MsgId(0)),

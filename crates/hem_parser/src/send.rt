@@ -6,17 +6,17 @@ ghost use Rattle.hem_grammar.specs.Draft.{send_spells, send_fresh, send_said};
 
 use crate::draft::Draft;
 use crate::sets::{send_set, send_with_message, send_with_status, send_with_value};
-use crate::words::{is_the_word, spells_value, value_stands};
+use crate::words::{spells_value, value_stands};
 use hem_base::{MsgId, Reserved, StatusSet};
-use hem_text::{Stands, Symbol, TokenKind};
 use hem_grammar::{Item, SendPart, Terminal};
 use hem_syntax::{SendTo, Value};
+use hem_text::{Lexeme, Stands, Symbol};
 
 /// What must follow a token of the send.
-pub fn send_follows(token: SendPart) -> &'static [Symbol<Terminal, Item>]
-    ensures { result.now ≡ send_follows token }
+pub fn send_follows(part: SendPart) -> &'static [Symbol<Terminal, Item>]
+    ensures { result.now ≡ send_follows part }
 {
-    match token {
+    match part {
         SendPart::Send => &[Symbol::Item(Item::SendTo)],
         SendPart::Me | SendPart::Parent => &[
             Symbol::One(Terminal::Send(SendPart::Message)),
@@ -34,10 +34,10 @@ pub fn send_follows(token: SendPart) -> &'static [Symbol<Terminal, Item>]
 }
 
 /// Whether the token is a reserved word, a used name or something else.
-pub fn send_stands(token: SendPart) -> Stands
-    ensures { result ≡ send_stands token }
+pub fn send_stands(part: SendPart) -> Stands
+    ensures { result ≡ send_stands part }
 {
-    match token {
+    match part {
         SendPart::Status | SendPart::More | SendPart::Message => Stands::Used,
         SendPart::Value(value) => value_stands(value),
         _ => Stands::Reserved,
@@ -45,37 +45,37 @@ pub fn send_stands(token: SendPart) -> Stands
 }
 
 impl Draft {
-    pub(crate) fn send_spells(&self, token: SendPart, kind: TokenKind, text: &[u8]) -> bool
-        ensures { result ≡ send_spells self.now token kind text.now }
+    pub(crate) fn send_spells(&self, part: SendPart, token: &Lexeme<'_>) -> bool
+        ensures { result ≡ send_spells self.now part token.now }
     {
-        match token {
-            SendPart::Send => is_the_word(Reserved::Send, kind, text),
-            SendPart::Me => is_the_word(Reserved::Me, kind, text),
-            SendPart::Parent => is_the_word(Reserved::Parent, kind, text),
-            SendPart::Kids => is_the_word(Reserved::Kids, kind, text),
-            SendPart::Others => is_the_word(Reserved::Others, kind, text),
-            SendPart::Status | SendPart::More => self.is_status(kind, text),
-            SendPart::Message => self.is_message(kind, text),
-            SendPart::Value(value) => spells_value(value, kind, text),
+        match part {
+            SendPart::Send => token.is_the_word(Reserved::Send),
+            SendPart::Me => token.is_the_word(Reserved::Me),
+            SendPart::Parent => token.is_the_word(Reserved::Parent),
+            SendPart::Kids => token.is_the_word(Reserved::Kids),
+            SendPart::Others => token.is_the_word(Reserved::Others),
+            SendPart::Status | SendPart::More => self.is_status(token),
+            SendPart::Message => self.is_message(token),
+            SendPart::Value(value) => spells_value(value, token),
         }
     }
 
-    pub(crate) fn send_fresh(&self, token: SendPart, text: &[u8]) -> bool
-        ensures { result ≡ send_fresh self.now token text.now }
+    pub(crate) fn send_fresh(&self, part: SendPart, text: &[u8]) -> bool
+        ensures { result ≡ send_fresh self.now part text.now }
     {
-        match token {
+        match part {
             SendPart::More => !send_set(self.rule.send).has(self.status(text)),
             _ => true,
         }
     }
 
     /// What the rule sends once the token is read.
-    fn send_said(&self, token: SendPart, text: &[u8]) -> SendTo
-        ensures { result ≡ send_said self.now token text.now }
+    fn send_said(&self, part: SendPart, text: &[u8]) -> SendTo
+        ensures { result ≡ send_said self.now part text.now }
     {
         let send = self.rule.send;
         let id = MsgId(0);
-        match token {
+        match part {
             SendPart::Send => send,
             SendPart::Me => SendTo::Me(id, Value::Zero),
             SendPart::Parent => SendTo::Parent(id, Value::Zero),
@@ -87,9 +87,9 @@ impl Draft {
         }
     }
 
-    pub(crate) fn read_send(&mut self, token: SendPart, text: &[u8])
-        ensures { self.new ≡ record self.old { rule = record self.old.rule { send = send_said self.old token text.now } } }
+    pub(crate) fn read_send(&mut self, part: SendPart, text: &[u8])
+        ensures { self.new ≡ record self.old { rule = record self.old.rule { send = send_said self.old part text.now } } }
     {
-        self.rule.send = self.send_said(token, text);
+        self.rule.send = self.send_said(part, text);
     }
 }

@@ -1,13 +1,13 @@
 //! Reads the shipped protocols.
 
 ghost use Rattle.std.specs.Prelude.{◌<◌, length, IfOk};
-ghost use Rattle.hem_parser.specs.Reading.{IsProtocolOf, IsShippedAs};
+ghost use Rattle.hem_parser.specs.ProtocolReading.{IsProtocolOf, IsShippedAs};
 
 use crate::written::written;
 use hem_base::OutOfMemory;
 use hem_shipped::shipped;
 use hem_syntax::Protocol;
-use hem_text::{Cursor, TextError, tokens};
+use hem_text::{Cursor, TextError};
 use std::alloc::Global;
 
 /// The protocol that the whole text is, if it is one.
@@ -15,15 +15,10 @@ fn whole(alloc: Global, bytes: &[u8]) -> Result<Option<Protocol>, OutOfMemory>
     requires { length bytes.now < 4294967295 }
     ensures { IfOk result (IsProtocolOf bytes.now) }
 {
-    let tokens = tokens(alloc, bytes)?;
-    let mut cursor = Cursor {
-        bytes,
-        tokens: &tokens,
-        at: 0,
-    };
+    let mut cursor = Cursor::new(bytes);
     match written(alloc, &mut cursor) {
         Ok(p) => {
-            if cursor.at == tokens.len() {
+            if cursor.is_at_end() {
                 Ok(Some(p))
             } else {
                 Ok(None)

@@ -6,7 +6,8 @@ use Rattle.std.proofs.lemmas.List.{take-take, take-append-drop, length-take, len
 use Rattle.std.specs.Prelude.{option_and_then, slice_get, is_some}
 use Rattle.hem_text.specs.declared.text.Cause.{Cause}
 use Rattle.hem_text.specs.declared.text.Cause.TheVariants.{TooMany, Repeated, Expected}
-use Rattle.hem_text.specs.Grammars.{Grammar, Lexeme, State, Way, Rules, full, unlimited, repeating, goes, next, run, way_at, lost_cause, cause_of, state, Reads, IsFault}
+use Rattle.hem_text.specs.Lexemes.{Lexeme}
+use Rattle.hem_text.specs.Grammars.{Grammar, State, Way, Rules, full, unlimited, repeating, goes, next, run, way_at, lost_cause, cause_of, state, Reads, IsFault}
 use Rattle.hem_text.specs.Refused.{local_cause, local_cause_at}
 
 -- what may come by all rules may come by fewer

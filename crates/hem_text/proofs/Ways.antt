@@ -5,7 +5,8 @@ use Rattle.std.specs.List.{list_any, list_all}
 use Rattle.std.specs.Option.{option_map, option_or}
 use Rattle.std.proofs.lemmas.List.Folds.{find-append, list_any-append, list_all-append}
 use Rattle.hem_text.specs.declared.symbol.Symbol.{Symbol}
-use Rattle.hem_text.specs.Grammars.{Grammar, Lexeme, state, way_into, ways, takes, way_at, heads, past, can_pass, comes_again, standing}
+use Rattle.hem_text.specs.Lexemes.{Lexeme}
+use Rattle.hem_text.specs.Grammars.{Grammar, state, way_into, ways, takes, way_at, heads, past, can_pass, comes_again, standing}
 
 pub find-ways_into : {E T I : Type 0} (g : Grammar E T I) (rest : List (Symbol T I)) (e : E) (t : Lexeme) (xs : List T) →
     find (takes g e t) (map (way_into g rest) xs) ≡ option_map (way_into g rest) (find (λ x. g.spells e x t) xs)

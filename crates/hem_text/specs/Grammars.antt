@@ -1,29 +1,14 @@
 -- Documents of a grammar, token by token: which tokens begin one, which are one, and the first fault and its cause.
-use Rattle.std.specs.Prelude.{◌≡◌, ◌≢◌, ℕ, ◌+◌, ◌-◌, ◌<◌, ◌≤◌, Bool, true, false, ◌&&◌, List, [], ◌∷◌, ◌++◌, map, length, take, drop, find, Option, Some, None, is_some, option_and_then, slice_get, if◌then◌else◌}
+use Rattle.std.specs.Prelude.{◌≡◌, ◌≢◌, ℕ, ◌+◌, ◌<◌, ◌≤◌, Bool, true, false, ◌&&◌, List, [], ◌∷◌, ◌++◌, map, length, take, find, Option, Some, None, is_some, option_and_then, slice_get, if◌then◌else◌}
 use Rattle.std.specs.List.{list_any, list_all}
-use Rattle.hem_text.specs.declared.text.TokenKind.{TokenKind}
-use Rattle.hem_text.specs.declared.text.Token.{Token}
-use Rattle.hem_text.specs.declared.text.Place.{Place}
+use Rattle.hem_text.specs.Lexemes.{Lexeme}
+use Rattle.hem_text.specs.Spelling.{is_name}
 use Rattle.hem_text.specs.declared.symbol.Symbol.{Symbol}
 use Rattle.hem_text.specs.declared.symbol.Symbol.TheVariants.{One, Item, Maybe, Many}
 use Rattle.hem_text.specs.declared.symbol.Stands.{Stands}
 use Rattle.hem_text.specs.declared.symbol.Stands.TheVariants.{Reserved, Used, Other}
 use Rattle.hem_text.specs.declared.text.Cause.{Cause}
 use Rattle.hem_text.specs.declared.text.Cause.TheVariants.{Unknown, Repeated, Expected, TooMany}
-
--- a token as a grammar sees it: its kind, its bytes and its place
-pub record Lexeme : Type 0 where
-  pub kind : TokenKind
-  pub text : List ℕ
-  pub place : Place
-
--- the token of this kind, these bytes and this place
-abbrev pub lexeme : TokenKind → List ℕ → Place → Lexeme
-lexeme k t p = record { kind = k; text = t; place = p }
-
--- a token of a text, with its bytes from there
-abbrev pub lexeme_of : List ℕ → Token → Lexeme
-lexeme_of bytes t = lexeme t.kind (take (t.end - t.start) (drop t.start bytes)) t.place
 
 -- a grammar: E is what has been read so far, T the tokens by what they mean, I the items
 pub record Grammar (E T I : Type 0) : Type 0 where
@@ -33,8 +18,6 @@ pub record Grammar (E T I : Type 0) : Type 0 where
   pub follows : T → List (Symbol T I)
   -- whether a token is a reserved word, a used name or something else
   pub stands : T → Stands
-  -- whether a token is a word that isn't reserved
-  pub is_name : Lexeme → Bool
   -- whether a token is spelled so, and declared if it is a used name
   pub spells : E → T → Lexeme → Bool
   -- whether it keeps the limits
@@ -152,7 +135,7 @@ names_only g stack = list_any (λ x. is_used (g.stands x)) (standing g stack) &&
 
 -- why a token can't stand that is spelled as nothing that may stand
 abbrev pub lost_cause : {E T I : Type 0} → Grammar E T I → List (Symbol T I) → Lexeme → Cause
-lost_cause g stack t = if g.is_name t && names_only g stack then Unknown else Expected
+lost_cause g stack t = if is_name t && names_only g stack then Unknown else Expected
 
 -- why a token, or the end, can't stand at this state, by the tokens through it
 abbrev pub cause_at : {E T I : Type 0} → Grammar E T I → State E T I → List Lexeme → State E T I → Option Lexeme → Cause

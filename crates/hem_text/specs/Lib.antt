@@ -1,8 +1,9 @@
+pub mod Lexemes
 pub mod Tokens
-pub mod Spans
+pub mod Unread
 pub mod Spelling
-pub mod Grammars
 pub mod Numbers
+pub mod Grammars
 pub mod Refused
+pub mod Parts
 pub mod Faults
-pub mod Cursors

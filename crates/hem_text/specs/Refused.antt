@@ -2,7 +2,8 @@
 use Rattle.std.specs.Prelude.{◌≡◌, Option, None, Some, if◌then◌else◌}
 use Rattle.hem_text.specs.declared.text.Cause.{Cause}
 use Rattle.hem_text.specs.declared.text.Cause.TheVariants.{TooMany, Repeated}
-use Rattle.hem_text.specs.Grammars.{Grammar, State, Way, Lexeme, next, full, way_at, lost_cause}
+use Rattle.hem_text.specs.Lexemes.{Lexeme}
+use Rattle.hem_text.specs.Grammars.{Grammar, State, Way, next, full, way_at, lost_cause}
 use Rattle.hem_text.specs.declared.machine.Refusal.{Refusal}
 use Rattle.hem_text.specs.declared.machine.Refusal.TheVariants.{Fault, OutOfMemory}
 

@@ -2,7 +2,7 @@
 use Rattle.std.specs.Prelude.{ℕ, zero, suc, ◌+◌, ◌-◌, ◌==◌, ◌||◌, ◌&&◌, Bool, false, not, List, [], ◌∷◌, take, Some, None, fold, if◌then◌else◌}
 use Rattle.std.specs.List.{prefix_len, list_all}
 use Rattle.std.specs.Char.{is_ascii_alphabetic, is_ascii_digit}
-use Rattle.hem_text.specs.declared.text.Token.{Token}
+use Rattle.hem_text.specs.Lexemes.{Lexeme}
 use Rattle.hem_text.specs.declared.text.Place.{Place}
 use Rattle.hem_text.specs.declared.text.TokenKind.{TokenKind}
 use Rattle.hem_text.specs.declared.text.TokenKind.TheVariants.{Word, Number, Sign, Bad}
@@ -66,24 +66,24 @@ piece_of (b ∷ bs) =
 abbrev pub advance : Place → ℕ → Place
 advance p b = if b == 10 then record { line = p.line + 1; column = 1 } else record { line = p.line; column = p.column + 1 }
 
--- the piece's token, if it is one, before the other tokens
-abbrev pub with_token : Piece → ℕ → Place → List Token → List Token
-with_token piece at place others = elim piece.kind [ None ↦ others | Some k ↦ record { kind = k; start = at; end = at + piece.len; place = place } ∷ others ]
+-- the piece's token, if it is one, before the other tokens: it has the first bytes, of which the first stands at this place
+abbrev pub with_token : Piece → Place → List ℕ → List Lexeme → List Lexeme
+with_token piece place bytes others = elim piece.kind [ None ↦ others | Some k ↦ record { kind = k; text = take piece.len bytes; place = place } ∷ others ]
 
--- the tokens of the bytes from this offset and place on, of which the first n belong to the piece before them
-abbrev pub tokens_from : ℕ → ℕ → Place → List ℕ → List Token
-tokens_from n at place [] = []
-tokens_from (suc n) at place (b ∷ bs) = tokens_from n (at + 1) (advance place b) bs
-tokens_from zero at place (b ∷ bs) =
-    with_token (piece_of (b ∷ bs)) at place (tokens_from ((piece_of (b ∷ bs)).len - 1) (at + 1) (advance place b) bs)
+-- the tokens of the bytes from this place on, of which the first n belong to the piece before them
+abbrev pub tokens_from : ℕ → Place → List ℕ → List Lexeme
+tokens_from n place [] = []
+tokens_from (suc n) place (b ∷ bs) = tokens_from n (advance place b) bs
+tokens_from zero place (b ∷ bs) =
+    with_token (piece_of (b ∷ bs)) place (b ∷ bs) (tokens_from ((piece_of (b ∷ bs)).len - 1) (advance place b) bs)
 
 -- the place of the first byte
 abbrev pub start_place : Place
 start_place = record { line = 1; column = 1 }
 
 -- the tokens of a text, in order
-abbrev pub tokens_of : List ℕ → List Token
-tokens_of bytes = tokens_from 0 0 start_place bytes
+abbrev pub tokens_of : List ℕ → List Lexeme
+tokens_of bytes = tokens_from 0 start_place bytes
 
 -- the place of the end: just after the last byte
 abbrev pub end_place : List ℕ → Place

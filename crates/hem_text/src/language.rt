@@ -1,9 +1,9 @@
 //! What a reader asks of a grammar.
 
 ghost use Rattle.std.specs.Prelude.{◌≡◌, OnOk, IsTrue};
-ghost use Rattle.hem_text.specs.Grammars.{Grammar, lexeme};
+ghost use Rattle.hem_text.specs.Grammars.{Grammar};
 
-use crate::{Place, Stands, Symbol, TokenKind};
+use crate::{Lexeme, Stands, Symbol};
 use hem_base::OutOfMemory;
 
 /// A grammar, at what has been read so far of a document.
@@ -27,38 +27,22 @@ pub trait Language {
     fn stands(terminal: Self::Terminal) -> Stands
         ensures { result ≡ grammar.stands terminal };
 
-    /// Whether a token is a word that isn't reserved.
-    fn is_name(kind: TokenKind, text: &[u8], place: Place) -> bool
-        ensures { result ≡ grammar.is_name (lexeme kind text.now place) };
-
     /// Whether a token is spelled so, and declared if it is a used name.
-    fn spells(&self, terminal: Self::Terminal, kind: TokenKind, text: &[u8], place: Place) -> bool
-        ensures { result ≡ grammar.spells self.now terminal (lexeme kind text.now place) };
+    fn spells(&self, terminal: Self::Terminal, token: &Lexeme<'_>) -> bool
+        ensures { result ≡ grammar.spells self.now terminal token.now };
 
     /// Whether a token that is spelled so keeps the limits.
-    fn is_within(
-        &self,
-        terminal: Self::Terminal,
-        kind: TokenKind,
-        text: &[u8],
-        place: Place,
-    ) -> bool
-        ensures { result ≡ grammar.is_within self.now terminal (lexeme kind text.now place) };
+    fn is_within(&self, terminal: Self::Terminal, token: &Lexeme<'_>) -> bool
+        ensures { result ≡ grammar.is_within self.now terminal token.now };
 
     /// Whether a token that is spelled so repeats nothing that must not be repeated.
-    fn is_fresh(&self, terminal: Self::Terminal, kind: TokenKind, text: &[u8], place: Place) -> bool
-        ensures { result ≡ grammar.is_fresh self.now terminal (lexeme kind text.now place) };
+    fn is_fresh(&self, terminal: Self::Terminal, token: &Lexeme<'_>) -> bool
+        ensures { result ≡ grammar.is_fresh self.now terminal token.now };
 
     /// Takes in a token.
-    fn read(
-        &mut self,
-        terminal: Self::Terminal,
-        kind: TokenKind,
-        text: &[u8],
-        place: Place,
-    ) -> Result<(), OutOfMemory>
-        requires spelled { IsTrue (grammar.spells self.old terminal (lexeme kind text.now place)) }
-        requires within { IsTrue (grammar.is_within self.old terminal (lexeme kind text.now place)) }
-        requires fresh { IsTrue (grammar.is_fresh self.old terminal (lexeme kind text.now place)) }
-        ensures { OnOk result (self.new ≡ grammar.after self.old terminal (lexeme kind text.now place)) };
+    fn read(&mut self, terminal: Self::Terminal, token: &Lexeme<'_>) -> Result<(), OutOfMemory>
+        requires spelled { IsTrue (grammar.spells self.old terminal token.now) }
+        requires within { IsTrue (grammar.is_within self.old terminal token.now) }
+        requires fresh { IsTrue (grammar.is_fresh self.old terminal token.now) }
+        ensures { OnOk result (self.new ≡ grammar.after self.old terminal token.now) };
 }

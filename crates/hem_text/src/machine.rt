@@ -3,13 +3,13 @@
 ghost use Rattle.std.specs.Prelude.{◌≡◌, ◌<◌, ◌≤◌, length, drop, find, Some, OnOk, IfErr, IfSome, IsTrue};
 ghost use Rattle.std.specs.List.{list_any, list_all};
 ghost use Rattle.std.specs.Option.{option_map};
-ghost use Rattle.hem_text.specs.Grammars.{Grammar, lexeme, state, heads, can_pass, comes_again, way_into, way_at, full, next, standing, is_used, is_plain, lost_cause};
+ghost use Rattle.hem_text.specs.Grammars.{Grammar, state, heads, can_pass, comes_again, way_into, way_at, full, next, standing, is_used, is_plain, lost_cause};
 ghost use Rattle.hem_text.specs.Refused.{IsRefused};
 ghost use Rattle.hem_text.specs.declared.machine.Refusal.TheVariants.{OutOfMemory as Memory};
 
 use crate::language::Language;
 use crate::stack::Stack;
-use crate::{Cause, Place, Stands, Symbol, TokenKind};
+use crate::{Cause, Lexeme, Stands, Symbol};
 use hem_base::OutOfMemory;
 
 /// Why a token wasn't read.
@@ -55,38 +55,25 @@ fn comes_again<T: Copy, I: Copy>(symbol: Symbol<T, I>) -> bool
 fn first_of<L: Language>(
     env: &L,
     terminals: &[L::Terminal],
-    kind: TokenKind,
-    text: &[u8],
-    place: Place,
+    token: &Lexeme<'_>,
 ) -> Option<L::Terminal>
-    ensures { result ≡ find (λ x. L.grammar.spells env.now x (lexeme kind text.now place)) terminals.now }
+    ensures { result ≡ find (λ x. L.grammar.spells env.now x token.now) terminals.now }
 {
-    terminals
-        .iter()
-        .copied()
-        .find(|x| env.spells(*x, kind, text, place))
+    terminals.iter().copied().find(|x| env.spells(*x, token))
 }
 
 /// The token of the symbol that this one is.
 fn head_of<L: Language>(
     env: &L,
     symbol: Symbol<L::Terminal, L::Item>,
-    kind: TokenKind,
-    text: &[u8],
-    place: Place,
+    token: &Lexeme<'_>,
 ) -> Option<L::Terminal>
-    ensures { result ≡ find (λ x. L.grammar.spells env.now x (lexeme kind text.now place)) (heads L.grammar symbol) }
+    ensures { result ≡ find (λ x. L.grammar.spells env.now x token.now) (heads L.grammar symbol) }
 {
     match symbol {
-        Symbol::One(x) => {
-            if env.spells(x, kind, text, place) {
-                Some(x)
-            } else {
-                None
-            }
-        }
+        Symbol::One(x) => { if env.spells(x, token) { Some(x) } else { None } }
         Symbol::Item(i) | Symbol::Maybe(i) | Symbol::Many(i) => {
-            first_of(env, L::firsts(i), kind, text, place)
+            first_of(env, L::firsts(i), token)
         }
     }
 }
@@ -94,18 +81,16 @@ fn head_of<L: Language>(
 fn find_way<L: Language>(
     env: &L,
     stack: &Stack<L::Terminal, L::Item>,
-    kind: TokenKind,
-    text: &[u8],
-    place: Place,
+    token: &Lexeme<'_>,
 ) -> Option<Found<L::Terminal>>
     ensures way { option_map (λ f. way_into L.grammar (drop f.past stack.now) f.terminal) result
-        ≡ way_at L.grammar (state env.now stack.now) (lexeme kind text.now place) }
+        ≡ way_at L.grammar (state env.now stack.now) token.now }
     ensures within { IfSome result (λ f. f.past ≤ length stack.now) }
-    ensures spelled { IfSome result (λ f. IsTrue (L.grammar.spells env.now f.terminal (lexeme kind text.now place))) }
+    ensures spelled { IfSome result (λ f. IsTrue (L.grammar.spells env.now f.terminal token.now)) }
 {
     for depth in 0..stack.len() {
         let symbol = stack.at(depth);
-        if let Some(terminal) = head_of(env, symbol, kind, text, place) {
+        if let Some(terminal) = head_of(env, symbol, token) {
             let past = if comes_again(symbol) {
                 depth
             } else {
@@ -199,15 +184,10 @@ fn only_plain<L: Language>(stack: &Stack<L::Terminal, L::Item>) -> bool
 }
 
 /// Why a token that no way takes can't stand.
-fn cause_of<L: Language>(
-    stack: &Stack<L::Terminal, L::Item>,
-    kind: TokenKind,
-    text: &[u8],
-    place: Place,
-) -> Cause
-    ensures { result ≡ lost_cause L.grammar stack.now (lexeme kind text.now place) }
+fn cause_of<L: Language>(stack: &Stack<L::Terminal, L::Item>, token: &Lexeme<'_>) -> Cause
+    ensures { result ≡ lost_cause L.grammar stack.now token.now }
 {
-    if L::is_name(kind, text, place) && some_used::<L>(stack) && only_plain::<L>(stack) {
+    if token.is_name() && some_used::<L>(stack) && only_plain::<L>(stack) {
         Cause::Unknown
     } else {
         Cause::Expected
@@ -218,27 +198,25 @@ fn cause_of<L: Language>(
 pub fn step<L: Language>(
     env: &mut L,
     stack: &mut Stack<L::Terminal, L::Item>,
-    kind: TokenKind,
-    text: &[u8],
-    place: Place,
+    token: &Lexeme<'_>,
 ) -> Result<(), Refusal>
-    ensures ok { OnOk result (next full L.grammar (state env.old stack.old) (lexeme kind text.now place) ≡ Some (state env.new stack.new)) }
-    ensures refused { IfErr result (λ e. IsRefused L.grammar (state env.old stack.old) (lexeme kind text.now place) e) }
+    ensures ok { OnOk result (next full L.grammar (state env.old stack.old) token.now ≡ Some (state env.new stack.new)) }
+    ensures refused { IfErr result (λ e. IsRefused L.grammar (state env.old stack.old) token.now e) }
 {
-    match find_way(env, stack, kind, text, place) {
+    match find_way(env, stack, token) {
         Some(found) => {
             let terminal = found.terminal;
-            if !env.is_fresh(terminal, kind, text, place) {
+            if !env.is_fresh(terminal, token) {
                 return Err(Refusal::Fault(Cause::Repeated));
             }
-            if !env.is_within(terminal, kind, text, place) {
+            if !env.is_within(terminal, token) {
                 return Err(Refusal::Fault(Cause::TooMany));
             }
             stack.pass(found.past);
             stack.put(L::follows(terminal))?;
-            env.read(terminal, kind, text, place)?;
+            env.read(terminal, token)?;
             Ok(())
         }
-        None => Err(Refusal::Fault(cause_of::<L>(stack, kind, text, place))),
+        None => Err(Refusal::Fault(cause_of::<L>(stack, token))),
     }
 }

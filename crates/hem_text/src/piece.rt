@@ -6,7 +6,7 @@ ghost use Rattle.std.specs.Char.{is_ascii_digit};
 ghost use Rattle.hem_text.specs.Tokens.{is_space, is_sign, is_not_line_feed, is_pair, kind_of_run, piece_of, advance};
 ghost use Rattle.hem_base.specs.Words.{is_word_byte};
 
-use crate::{Piece, Place, TokenKind};
+use crate::text::{Piece, Place, TokenKind};
 
 fn is_space(b: u8) -> bool
     ensures { result ≡ is_space b }

@@ -1,17 +1,18 @@
-//! Reads a document, or finds its first fault.
+//! Reads a part of a document, or finds its first fault.
 
-ghost use Rattle.std.specs.Prelude.{◌≡◌, ◌+◌, ◌-◌, ◌<◌, ◌≤◌, length, map, drop, All, IfOk, IfErr};
-ghost use Rattle.hem_text.specs.Grammars.{state, lexeme_of, Reads};
-ghost use Rattle.hem_text.specs.Faults.{IsFirstFault, ReadsOnly, refused_at};
-ghost use Rattle.hem_text.specs.Spans.{IsSpan};
+ghost use Rattle.std.specs.Prelude.{◌≡◌, IfOk, OnOk, IfErr, OnErr};
+ghost use Rattle.hem_text.specs.Grammars.{state};
+ghost use Rattle.hem_text.specs.Parts.{IsPart};
+ghost use Rattle.hem_text.specs.Faults.{IsFirstFault, refused_at};
 ghost use Rattle.hem_text.specs.declared.reader.TextError.TheVariants.{OutOfMemory as Memory};
 
+use crate::cursor::Cursor;
 use crate::language::Language;
 use crate::machine::{Refusal, step};
-use crate::piece::place_after;
 use crate::stack::Stack;
-use crate::{Cause, Place, Token};
+use crate::{Cause, Place, Symbol};
 use hem_base::OutOfMemory;
+use std::alloc::Global;
 
 /// The first fault of a text.
 #[derive(Clone, Copy, Debug, PartialEq, Eq)]
@@ -45,45 +46,55 @@ fn refused_at(refusal: Refusal, place: Place) -> TextError
     }
 }
 
-/// Reads the document that begins at the token `at`, and answers the place of the first token after it. An answer
-/// `Text` is the first fault: its place is that of the first token at which no document goes on, or the end of the bytes.
-/// After an error `env` and `stack` hold what was read before it.
-pub fn read<L: Language>(
+/// Reads tokens until nothing is to come, and moves the cursor past them.
+fn read<L: Language>(
     env: &mut L,
     stack: &mut Stack<L::Terminal, L::Item>,
-    bytes: &[u8],
-    tokens: &[Token],
-    at: usize,
-) -> Result<usize, TextError>
-    requires short { length bytes.now < 4294967295 }
-    requires spans { All (IsSpan bytes.now) tokens.now }
-    requires within { at ≤ length tokens.now }
-    ensures ok { IfOk result (λ end. (at ≤ end) × Reads L.grammar (state env.old stack.old) (map (lexeme_of bytes.now) (drop at tokens.now)) (end - at) env.new) }
-    ensures only { IfOk result (λ end. ReadsOnly L.grammar (state env.old stack.old) (map (lexeme_of bytes.now) (drop at tokens.now)) (end - at) env.new) }
-    ensures text { IfErr result (IsFirstFault L.grammar (state env.old stack.old) bytes.now tokens.now at) }
+    cursor: &mut Cursor<'_>,
+) -> Result<(), TextError>
+    ensures ok { OnOk result (IsPart L.grammar (state env.old stack.old) cursor.old.tokens cursor.new.tokens env.new) }
+    ensures text { IfErr result (IsFirstFault L.grammar (state env.old stack.old) cursor.old.tokens cursor.old.end) }
+    ensures end { cursor.new.end ≡ cursor.old.end }
+    ensures stays { OnErr result (cursor.new ≡ cursor.old) }
 {
-    for i in at..tokens.len() {
-        if stack.is_empty() {
-            return Ok(i);
-        }
-        let token = tokens[i];
-        match step(
-            env,
-            stack,
-            token.kind,
-            &bytes[token.start..token.end],
-            token.place,
-        ) {
-            Ok(()) => {}
-            Err(refusal) => return Err(refused_at(refusal, token.place)),
+    let mut ahead = cursor.from_here();
+    while !stack.is_empty() {
+        match ahead.next() {
+            Some(token) => match step(env, stack, &token) {
+                Ok(()) => {}
+                Err(refusal) => return Err(refused_at(refusal, token.place())),
+            },
+            None => {
+                return Err(TextError::Text(TextFault {
+                    place: cursor.end(),
+                    cause: Cause::Expected,
+                }));
+            }
         }
     }
-    if stack.is_empty() {
-        return Ok(tokens.len());
+    *cursor = ahead;
+    Ok(())
+}
+
+/// Reads the part of a document that begins at the cursor, where nothing but the draft's start is read yet and `start` is
+/// to come, and moves the cursor past it. An answer `Text` is the first fault: its place is that of the first token at
+/// which no document goes on, or the end of the text. After an error the cursor stays where it was.
+pub fn read_part<L: Language + Drop>(
+    alloc: Global,
+    cursor: &mut Cursor<'_>,
+    draft: L,
+    start: &[Symbol<L::Terminal, L::Item>],
+) -> Result<L, TextError>
+    ensures ok { IfOk result (λ read. IsPart L.grammar (state draft start.now) cursor.old.tokens cursor.new.tokens read) }
+    ensures text { IfErr result (IsFirstFault L.grammar (state draft start.now) cursor.old.tokens cursor.old.end) }
+    ensures end { cursor.new.end ≡ cursor.old.end }
+    ensures stays { OnErr result (cursor.new ≡ cursor.old) }
+{
+    let mut env = draft;
+    let mut stack = Stack::new(alloc);
+    stack.put(start)?;
+    match read(&mut env, &mut stack, cursor) {
+        Ok(()) => Ok(env),
+        Err(e) => Err(e),
     }
-    let start = Place { line: 1, column: 1 };
-    Err(TextError::Text(TextFault {
-        place: place_after(start, bytes),
-        cause: Cause::Expected,
-    }))
 }

@@ -23,19 +23,6 @@ pub enum TokenKind {
     Bad,
 }
 
-/// A token: the bytes of the text from `start` to before `end`, and the place where it begins.
-#[derive(Clone, Copy, Debug, PartialEq, Eq)]
-pub struct Token {
-    /// What it is.
-    pub kind: TokenKind,
-    /// Where its first byte stands in the text, from 0.
-    pub start: usize,
-    /// Where the byte after its last stands, or would stand.
-    pub end: usize,
-    /// The place of its first byte.
-    pub place: Place,
-}
-
 /// What stands at the front of a text: a token of this kind or bytes between tokens, and its length in bytes.
 #[derive(Clone, Copy, Debug, PartialEq, Eq)]
 pub struct Piece {
