@@ -1,5 +1,9 @@
 //! Inclusive MESI.
 
+ghost use Rattle.std.specs.Prelude.{◌≡◌};
+ghost use Rattle.hem_shipped.specs.Texts.{text_of_lines};
+ghost use Rattle.hem_shipped.specs.MesiInclusive.{mesi_inclusive_lines};
+
 /// The canonical text of the protocol `mesi_inclusive`.
 pub const MESI_INCLUSIVE: &str = "protocol mesi_inclusive
 status I S E M
@@ -80,3 +84,11 @@ rule downgrade take parent Down need up any down free when st in E M set st := S
 end
 end
 ";
+
+/// The text as it is promised.
+#[tactic(auto, unfolding(crate::specs::Texts::text_of_lines, crate::specs::MesiInclusive::mesi_inclusive_lines))]
+pub fn text() -> &'static str
+    ensures { result.now ≡ text_of_lines mesi_inclusive_lines }
+{
+    MESI_INCLUSIVE
+}

@@ -1,5 +1,9 @@
 //! Non-inclusive MESI.
 
+ghost use Rattle.std.specs.Prelude.{◌≡◌};
+ghost use Rattle.hem_shipped.specs.Texts.{text_of_lines};
+ghost use Rattle.hem_shipped.specs.MesiNoninclusive.{mesi_noninclusive_lines};
+
 /// The canonical text of the protocol `mesi_noninclusive`.
 pub const MESI_NONINCLUSIVE: &str = "protocol mesi_noninclusive
 status I S E M
@@ -91,3 +95,11 @@ rule fetch take parent Fetch need up any down free when st in S send parent Fetc
 end
 end
 ";
+
+/// The text as it is promised.
+#[tactic(auto, unfolding(crate::specs::Texts::text_of_lines, crate::specs::MesiNoninclusive::mesi_noninclusive_lines))]
+pub fn text() -> &'static str
+    ensures { result.now ≡ text_of_lines mesi_noninclusive_lines }
+{
+    MESI_NONINCLUSIVE
+}

@@ -1,5 +1,9 @@
 //! Inclusive MSI.
 
+ghost use Rattle.std.specs.Prelude.{◌≡◌};
+ghost use Rattle.hem_shipped.specs.Texts.{text_of_lines};
+ghost use Rattle.hem_shipped.specs.MsiInclusive.{msi_inclusive_lines};
+
 /// The canonical text of the protocol `msi_inclusive`.
 pub const MSI_INCLUSIVE: &str = "protocol msi_inclusive
 status I S M
@@ -73,3 +77,11 @@ rule downgrade take parent Down need up any down free when st in M set st := S s
 end
 end
 ";
+
+/// The text as it is promised.
+#[tactic(auto, unfolding(crate::specs::Texts::text_of_lines, crate::specs::MsiInclusive::msi_inclusive_lines))]
+pub fn text() -> &'static str
+    ensures { result.now ≡ text_of_lines msi_inclusive_lines }
+{
+    MSI_INCLUSIVE
+}

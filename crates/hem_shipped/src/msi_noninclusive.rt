@@ -1,5 +1,9 @@
 //! Non-inclusive MSI.
 
+ghost use Rattle.std.specs.Prelude.{◌≡◌};
+ghost use Rattle.hem_shipped.specs.Texts.{text_of_lines};
+ghost use Rattle.hem_shipped.specs.MsiNoninclusive.{msi_noninclusive_lines};
+
 /// The canonical text of the protocol `msi_noninclusive`.
 pub const MSI_NONINCLUSIVE: &str = "protocol msi_noninclusive
 status I S M
@@ -84,3 +88,11 @@ rule fetch take parent Fetch need up any down free when st in S send parent Fetc
 end
 end
 ";
+
+/// The text as it is promised.
+#[tactic(auto, unfolding(crate::specs::Texts::text_of_lines, crate::specs::MsiNoninclusive::msi_noninclusive_lines))]
+pub fn text() -> &'static str
+    ensures { result.now ≡ text_of_lines msi_noninclusive_lines }
+{
+    MSI_NONINCLUSIVE
+}
