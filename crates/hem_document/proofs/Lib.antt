@@ -1,3 +1,4 @@
+pub mod FaultsInTurn
 pub mod OneAfterAnother
 pub mod ReadOnce
 pub mod SetUpOnce

@@ -14,6 +14,17 @@ use hem_tree::read_tree;
 use hem_work::read_work;
 use std::alloc::Global;
 
+/// What was read first, with what was read after it.
+fn joined<A: Drop, B>(first: A, second: Result<B, TextError>) -> Result<(A, B), TextError>
+    ensures ok { IfOk result (λ both. (both.0 ≡ first) × (second ≡ Ok both.1)) }
+    ensures err { IfErr result (λ e. second ≡ Err e) }
+{
+    match second {
+        Ok(second) => Ok((first, second)),
+        Err(e) => Err(e),
+    }
+}
+
 /// Reads a protocol and a tree.
 fn read_to_tree(alloc: Global, cursor: &mut Cursor<'_>) -> Result<TreeDocument, TextError>
     ensures ok { IfOk result (ReadsToTree cursor.old.tokens cursor.new.tokens) }
@@ -21,8 +32,11 @@ fn read_to_tree(alloc: Global, cursor: &mut Cursor<'_>) -> Result<TreeDocument, 
     ensures end { cursor.new.end ≡ cursor.old.end }
 {
     let protocol = protocol(alloc, cursor)?;
-    let tree = read_tree(alloc, cursor)?;
-    Ok(TreeDocument { protocol, tree })
+    let tree = read_tree(alloc, cursor);
+    match joined(protocol, tree) {
+        Ok((protocol, tree)) => Ok(TreeDocument { protocol, tree }),
+        Err(e) => Err(e),
+    }
 }
 
 /// Reads a protocol, a tree and a work.
@@ -31,13 +45,16 @@ fn read_to_work(alloc: Global, cursor: &mut Cursor<'_>) -> Result<WorkDocument, 
     ensures text { IfErr result (OfFault (IsFaultToWork cursor.old.tokens cursor.old.end)) }
     ensures end { cursor.new.end ≡ cursor.old.end }
 {
-    let TreeDocument { protocol, tree } = read_to_tree(alloc, cursor)?;
-    let work = read_work(alloc, cursor, &protocol)?;
-    Ok(WorkDocument {
-        protocol,
-        tree,
-        work,
-    })
+    let before = read_to_tree(alloc, cursor)?;
+    let work = read_work(alloc, cursor, &before.protocol);
+    match joined(before, work) {
+        Ok((TreeDocument { protocol, tree }, work)) => Ok(WorkDocument {
+            protocol,
+            tree,
+            work,
+        }),
+        Err(e) => Err(e),
+    }
 }
 
 /// Reads a protocol, a tree, a work and a history.
@@ -47,15 +64,19 @@ fn read_to_history(alloc: Global, cursor: &mut Cursor<'_>) -> Result<Document, T
     ensures end { cursor.new.end ≡ cursor.old.end }
 {
     let setup = read_to_work(alloc, cursor)?;
-    let history = read_history(alloc, cursor, &setup.protocol)?;
-    Ok(Document {
-        setup,
-        history: List::from_vec(history),
-    })
+    let history = read_history(alloc, cursor, &setup.protocol);
+    match joined(setup, history) {
+        Ok((setup, history)) => Ok(Document {
+            setup,
+            history: List::from_vec(history),
+        }),
+        Err(e) => Err(e),
+    }
 }
 
-/// Answers whether no token is left, and else the fault of the first that is.
-fn at_end(cursor: &Cursor<'_>) -> Result<(), TextError>
+/// What was read, where no token is left, and else the fault of the first that is.
+fn ended<D: Drop>(cursor: &Cursor<'_>, document: D) -> Result<D, TextError>
+    ensures same { IfOk result (λ d. d ≡ document) }
     ensures ok { OnOk result (cursor.now.tokens ≡ []) }
     ensures text { IfErr result (OfFault (IsTooLong cursor.now.tokens)) }
 {
@@ -64,7 +85,7 @@ fn at_end(cursor: &Cursor<'_>) -> Result<(), TextError>
             place: token.place(),
             cause: Cause::Expected,
         })),
-        None => Ok(()),
+        None => Ok(document),
     }
 }
 
@@ -76,8 +97,7 @@ pub fn read_protocol_document(alloc: Global, bytes: &[u8]) -> Result<Protocol, T
 {
     let mut cursor = Cursor::new(bytes);
     let document = protocol(alloc, &mut cursor)?;
-    at_end(&cursor)?;
-    Ok(document)
+    ended(&cursor, document)
 }
 
 /// The protocol and the tree that the bytes are. An answer `Text` is their first fault.
@@ -88,8 +108,7 @@ pub fn read_tree_document(alloc: Global, bytes: &[u8]) -> Result<TreeDocument, T
 {
     let mut cursor = Cursor::new(bytes);
     let document = read_to_tree(alloc, &mut cursor)?;
-    at_end(&cursor)?;
-    Ok(document)
+    ended(&cursor, document)
 }
 
 /// The protocol, the tree and the work that the bytes are. An answer `Text` is their first fault.
@@ -100,8 +119,7 @@ pub fn read_work_document(alloc: Global, bytes: &[u8]) -> Result<WorkDocument, T
 {
     let mut cursor = Cursor::new(bytes);
     let document = read_to_work(alloc, &mut cursor)?;
-    at_end(&cursor)?;
-    Ok(document)
+    ended(&cursor, document)
 }
 
 /// The document that the bytes are: protocol, tree, work and history. An answer `Text` is their first fault.
@@ -112,6 +130,5 @@ pub fn read_document(alloc: Global, bytes: &[u8]) -> Result<Document, TextError>
 {
     let mut cursor = Cursor::new(bytes);
     let document = read_to_history(alloc, &mut cursor)?;
-    at_end(&cursor)?;
-    Ok(document)
+    ended(&cursor, document)
 }

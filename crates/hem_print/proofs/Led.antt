@@ -5,27 +5,15 @@ use Rattle.std.proofs.lemmas.Grind.{flat_map-append}
 use Rattle.hem_base.specs.declared.words.Sign.TheVariants as sign
 use Rattle.hem_base.specs.declared.words.Reserved.TheVariants as word
 use Rattle.hem_syntax.specs.Protocol.{Protocol, KindPart}
-use Rattle.hem_print.specs.Canonical.{Word, signed, gap, spelling, words_text, led, Line, end_line, line_text, lines_text, declaration_lines, kind_lines, protocol_text}
+use Rattle.hem_print.specs.Canonical.{Word, signed, words_text, led, Line, end_line, line_text, lines_text, declaration_lines, kind_lines, protocol_text}
 
 -- words after words
 pub words_joined : (xs ys : List Word) → words_text (xs ++ ys) ≡ words_text xs ++ words_text ys
 words_joined xs ys = flat_map-append _ xs ys
 
--- the elements, this text before the first and a comma before each other one
-abbrev pub led_text : {A : Type 0} → (A → List Word) → List ℕ → List A → List ℕ
-led_text f lead [] = []
-led_text f lead (x ∷ xs) = lead ++ (words_text (f x) ++ led_text f (codes ",") xs)
-
--- it is the text of the led words
-pub led_is : {A : Type 0} (f : A → List Word) (w : Word) (xs : List A) → led_text f (gap w ++ spelling w) xs ≡ words_text (led w f xs)
-led_is f w [] = refl
-led_is f w (x ∷ xs) =
-    let rest = words_joined (f x) (led (signed sign.Comma) f xs) in
-    rw (rest, led_is f (signed sign.Comma) xs) refl
-
--- one more element
-pub led_more : {A : Type 0} (f : A → List Word) (text lead : List ℕ) (x : A) (xs : List A) → ((text ++ lead) ++ words_text (f x)) ++ led_text f (codes ",") xs ≡ text ++ led_text f lead (x ∷ xs)
-led_more f text lead x xs = simp append_assoc
+-- the first element, and those after it
+pub led_first : {A : Type 0} (f : A → List Word) (w : Word) (x : A) (xs : List A) → words_text (led w f (x ∷ xs)) ≡ words_text (w ∷ []) ++ words_text (f x) ++ words_text (led (signed sign.Comma) f xs)
+led_first f w x xs = rw (words_joined (f x) (led (signed sign.Comma) f xs)) (simp (append_assoc, append-nil))
 
 -- ten pieces of the words of a rule, one after another
 pub rule_chain : (s0 s1 s2 s3 s4 s5 s6 s7 s8 s9 s10 : List ℕ) (tw : Word) (t : List Word) (nw : Word) (n g a f l d : List Word) (ew : Word)
@@ -40,11 +28,11 @@ pub lines_joined : (xs ys : List Line) → lines_text (xs ++ ys) ≡ lines_text 
 lines_joined xs ys = flat_map-append _ xs ys
 
 -- the parts of a protocol, one after another
-pub protocol_made : (p : Protocol) (s0 s1 s2 s3 s4 s5 : List ℕ) (r m l : KindPart) → s0 ≡ [] → s1 ≡ s0 ++ lines_text (declaration_lines p)
-    → r ≡ p.root → s2 ≡ s1 ++ lines_text (kind_lines p word.Root r) → m ≡ p.mid → s3 ≡ s2 ++ lines_text (kind_lines p word.Mid m) → l ≡ p.leaf → s4 ≡ s3 ++ lines_text (kind_lines p word.Leaf l)
+pub protocol_made : (p : Protocol) (s0 s1 s2 s3 s4 s5 : List ℕ) → s0 ≡ [] → s1 ≡ s0 ++ lines_text (declaration_lines p)
+    → s2 ≡ s1 ++ lines_text (kind_lines p word.Root p.root) → s3 ≡ s2 ++ lines_text (kind_lines p word.Mid p.mid) → s4 ≡ s3 ++ lines_text (kind_lines p word.Leaf p.leaf)
     → s5 ≡ s4 ++ codes "end\n" → s5 ≡ protocol_text p
-protocol_made p s0 s1 s2 s3 s4 s5 r m l e0 e1 is_r e2 is_m e3 is_l e4 e5 =
-    rw (e5, e4, is_l, e3, is_m, e2, is_r, e1, e0) (chain (declaration_lines p) (kind_lines p word.Root p.root) (kind_lines p word.Mid p.mid) (kind_lines p word.Leaf p.leaf))
+protocol_made p s0 s1 s2 s3 s4 s5 e0 e1 e2 e3 e4 e5 =
+    rw (e5, e4, e3, e2, e1, e0) (chain (declaration_lines p) (kind_lines p word.Root p.root) (kind_lines p word.Mid p.mid) (kind_lines p word.Leaf p.leaf))
   where
     chain : (d r m l : List Line) → lines_text d ++ lines_text r ++ lines_text m ++ lines_text l ++ codes "end\n" ≡ lines_text (d ++ r ++ m ++ l ++ (end_line ∷ []))
     chain d r m l = simp (lines_joined, append_assoc)

@@ -15,5 +15,4 @@ pub mod ProtocolRuns
 pub mod Lexing
 pub mod GoodWords
 pub mod Reading
-pub mod Ascii
 mod SmallProtocol

@@ -4,7 +4,6 @@
 mod guards;
 mod law;
 mod names;
-mod output;
 mod protocol;
 mod rules;
 mod sends;

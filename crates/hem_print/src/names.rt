@@ -1,13 +1,17 @@
 //! Names of a protocol, and words for what a rule says, appended to a text.
 
-ghost use Rattle.std.specs.Prelude.{◌≡◌, [], ◌∷◌, ◌++◌, OnOk};
+ghost use Rattle.std.specs.Prelude.{◌≡◌, [], ◌∷◌, ◌++◌, OnOk, IsTrue, slice_get, option_copied};
+ghost use Rattle.std.specs.Option.{option_map};
 ghost use Rattle.hem_base.specs.Sets.{has_bit};
+ghost use Rattle.hem_base.specs.Words.{is_word_text};
+ghost use Rattle.hem_syntax.specs.Protocol.{part};
+ghost use Rattle.hem_syntax.specs.Lawful.{IsProtocol};
 ghost use Rattle.hem_grammar.specs.Draft.{class_word, hold_word, side_word, origin_word};
-ghost use Rattle.hem_print.specs.Canonical.{named, words_text, status_name, message_name, rule_name, field_name, set_words, value_word};
+ghost use Rattle.hem_print.specs.Canonical.{plain, named, words_text, status_name, message_name, rule_name, field_name, set_words, value_word};
 
-use crate::output::Output;
-use hem_base::{MsgId, OutOfMemory, Reserved, RuleId, Status8, StatusSet};
-use hem_syntax::{Class, Hold, KindPart, Origin, Protocol, Side, Value};
+use hem_base::{Kind, MsgId, Name, OutOfMemory, Reserved, RuleId, Status8, StatusSet};
+use hem_output::Output;
+use hem_syntax::{Class, Hold, Origin, Protocol, Side, Value};
 
 /// The word for a class.
 pub(crate) fn class_word(class: Class) -> Reserved
@@ -64,69 +68,128 @@ fn has_place(set: StatusSet, place: usize) -> bool
     place < 8 && (set.0 >> place) & 1 == 1
 }
 
-impl Output {
-    /// Appends the name of a status.
-    pub(crate) fn status(&mut self, p: &Protocol, status: Status8) -> Result<(), OutOfMemory>
-        ensures { OnOk result (self.new ≡ self.old ++ words_text (named (status_name p.now status) ∷ [])) }
-    {
-        match p.status_name(status) {
-            Some(name) => self.name(name.as_bytes()),
-            None => self.name(b""),
+/// The names of the statuses.
+pub(crate) fn statuses_of(p: &Protocol) -> &[Name]
+    ensures names { result.now ≡ p.now.statuses }
+    ensures lawful { IsProtocol p.now }
+{
+    // This call says that the protocol is lawful, so that its names are words.
+    let _root = p.part(Kind::Root);
+    p.statuses().as_slice()
+}
+
+/// The fields of a kind, each with its status at the start.
+pub(crate) fn fields_of(p: &Protocol, kind: Kind) -> &[(Name, Status8)]
+    ensures fields { result.now ≡ (part p.now kind).fields }
+    ensures lawful { IsProtocol p.now }
+{
+    p.part(kind).fields.as_slice()
+}
+
+/// The name of the field of a kind at a place, where it is declared.
+fn field_at(p: &Protocol, kind: Kind, place: usize) -> Option<&Name>
+    ensures name { option_copied result ≡ option_map (λ f. f.0) (slice_get (part p.now kind).fields place) }
+    ensures lawful { IsProtocol p.now }
+{
+    let (name, _) = fields_of(p, kind).get(place)?;
+    Some(name)
+}
+
+/// Appends a reserved word after another word.
+pub(crate) fn write_word(output: &mut Output, word: Reserved) -> Result<(), OutOfMemory>
+    ensures { OnOk result (output.new ≡ output.old ++ words_text (plain word ∷ [])) }
+{
+    output.text(" ")?;
+    output.word(word)
+}
+
+/// Appends a name after another word.
+pub(crate) fn write_name(output: &mut Output, name: &Name) -> Result<(), OutOfMemory>
+    requires { IsTrue (is_word_text name.now) }
+    ensures { OnOk result (output.new ≡ output.old ++ words_text (named name.now ∷ [])) }
+{
+    output.text(" ")?;
+    output.name(name)
+}
+
+/// Appends the name of a status.
+pub(crate) fn write_status(
+    output: &mut Output,
+    p: &Protocol,
+    status: Status8,
+) -> Result<(), OutOfMemory>
+    ensures { OnOk result (output.new ≡ output.old ++ words_text (named (status_name p.now status) ∷ [])) }
+{
+    match p.status_name(status) {
+        Some(name) => write_name(output, name),
+        None => output.text(" "),
+    }
+}
+
+/// Appends the name of a message id.
+pub(crate) fn write_message(output: &mut Output, p: &Protocol, id: MsgId) -> Result<(), OutOfMemory>
+    ensures { OnOk result (output.new ≡ output.old ++ words_text (named (message_name p.now id) ∷ [])) }
+{
+    match p.message_name(id) {
+        Some(name) => write_name(output, name),
+        None => output.text(" "),
+    }
+}
+
+/// Appends the name of a rule.
+pub(crate) fn write_rule_name(
+    output: &mut Output,
+    p: &Protocol,
+    id: RuleId,
+) -> Result<(), OutOfMemory>
+    ensures { OnOk result (output.new ≡ output.old ++ words_text (named (rule_name p.now id) ∷ [])) }
+{
+    match p.rule_name(id) {
+        Some(name) => write_name(output, name),
+        None => output.text(" "),
+    }
+}
+
+/// Appends the name of a field of a kind.
+pub(crate) fn write_field_name(
+    output: &mut Output,
+    p: &Protocol,
+    kind: Kind,
+    field: u8,
+) -> Result<(), OutOfMemory>
+    ensures { OnOk result (output.new ≡ output.old ++ words_text (named (field_name (part p.now kind) field) ∷ [])) }
+{
+    match field_at(p, kind, usize::from(field)) {
+        Some(name) => write_name(output, name),
+        None => output.text(" "),
+    }
+}
+
+/// Appends the statuses of a set, in order of declaration.
+pub(crate) fn write_set(
+    output: &mut Output,
+    p: &Protocol,
+    set: StatusSet,
+) -> Result<(), OutOfMemory>
+    ensures { OnOk result (output.new ≡ output.old ++ words_text (set_words p.now set)) }
+{
+    for (place, name) in statuses_of(p).iter().enumerate() {
+        if has_place(set, place) {
+            write_name(output, name)?;
         }
     }
+    Ok(())
+}
 
-    /// Appends the name of a message id.
-    pub(crate) fn message(&mut self, p: &Protocol, id: MsgId) -> Result<(), OutOfMemory>
-        ensures { OnOk result (self.new ≡ self.old ++ words_text (named (message_name p.now id) ∷ [])) }
-    {
-        match p.message_name(id) {
-            Some(name) => self.name(name.as_bytes()),
-            None => self.name(b""),
-        }
-    }
-
-    /// Appends the name of a rule.
-    pub(crate) fn rule_name(&mut self, p: &Protocol, id: RuleId) -> Result<(), OutOfMemory>
-        ensures { OnOk result (self.new ≡ self.old ++ words_text (named (rule_name p.now id) ∷ [])) }
-    {
-        match p.rule_name(id) {
-            Some(name) => self.name(name.as_bytes()),
-            None => self.name(b""),
-        }
-    }
-
-    /// Appends the name of a field.
-    pub(crate) fn field_name(&mut self, part: &KindPart, field: u8) -> Result<(), OutOfMemory>
-        ensures { OnOk result (self.new ≡ self.old ++ words_text (named (field_name part.now field) ∷ [])) }
-    {
-        match part.fields.get(usize::from(field)) {
-            Some((name, _)) => self.name(name.as_bytes()),
-            None => self.name(b""),
-        }
-    }
-
-    /// Appends the statuses of a set, in order of declaration.
-    pub(crate) fn set(&mut self, p: &Protocol, set: StatusSet) -> Result<(), OutOfMemory>
-        ensures { OnOk result (self.new ≡ self.old ++ words_text (set_words p.now set)) }
-    {
-        for (place, name) in p.statuses().as_slice().iter().enumerate() {
-            if has_place(set, place) {
-                self.name(name.as_bytes())?;
-            }
-        }
-        Ok(())
-    }
-
-    /// Appends a value.
-    pub(crate) fn value(&mut self, value: Value) -> Result<(), OutOfMemory>
-        ensures { OnOk result (self.new ≡ self.old ++ words_text (value_word value ∷ [])) }
-    {
-        match value {
-            Value::Val => self.word(Reserved::Val),
-            Value::Msg => self.word(Reserved::Msg),
-            Value::Kept => self.word(Reserved::Kept),
-            Value::Rs => self.word(Reserved::Rs),
-            Value::Zero => self.bytes(b" 0"),
-        }
+/// Appends a value.
+pub(crate) fn write_value(output: &mut Output, value: Value) -> Result<(), OutOfMemory>
+    ensures { OnOk result (output.new ≡ output.old ++ words_text (value_word value ∷ [])) }
+{
+    match value {
+        Value::Val => write_word(output, Reserved::Val),
+        Value::Msg => write_word(output, Reserved::Msg),
+        Value::Kept => write_word(output, Reserved::Kept),
+        Value::Rs => write_word(output, Reserved::Rs),
+        Value::Zero => output.text(" 0"),
     }
 }

@@ -1,70 +1,75 @@
 //! Protocols.
 
-ghost use Rattle.std.specs.Prelude.{◌≡◌, ◌++◌, OnOk, IfOk, map, option_to_list, slice_get, string_bytes};
+ghost use Rattle.std.specs.Prelude.{◌≡◌, ◌++◌, OnOk, IfOk, IsTrue, map, option_to_list, slice_get, string_bytes};
+ghost use Rattle.hem_base.specs.Words.{is_word_text};
 ghost use Rattle.hem_print.specs.Canonical.{named, words_text, line_text, lines_text, message_line, declaration_lines, protocol_text};
 
-use crate::names::class_word;
-use crate::output::Output;
+use crate::names::{class_word, statuses_of, write_name, write_word};
+use crate::rules::write_kind;
 use hem_base::{Kind, Name, OutOfMemory, Reserved};
-use hem_syntax::{Class, Named, Protocol};
+use hem_output::Output;
+use hem_syntax::{Class, Protocol};
 use std::alloc::Global;
 
-impl Output {
-    /// Appends the names of statuses.
-    fn statuses(&mut self, statuses: &[Name]) -> Result<(), OutOfMemory>
-        ensures { OnOk result (self.new ≡ self.old ++ words_text (map (λ s. named s) statuses.now)) }
-    {
-        for name in statuses {
-            self.name(name.as_bytes())?;
-        }
-        Ok(())
+/// Appends the names of the statuses.
+fn write_statuses(output: &mut Output, p: &Protocol) -> Result<(), OutOfMemory>
+    ensures { OnOk result (output.new ≡ output.old ++ words_text (map (λ s. named s) p.now.statuses)) }
+{
+    for name in statuses_of(p) {
+        write_name(output, name)?;
     }
+    Ok(())
+}
 
-    /// Appends the line of a message.
-    fn message_line(&mut self, name: &Name, class: Class) -> Result<(), OutOfMemory>
-        ensures { OnOk result (self.new ≡ self.old ++ line_text (message_line (name.now, class))) }
-    {
-        self.first(Reserved::Message)?;
-        self.name(name.as_bytes())?;
-        self.word(class_word(class))?;
-        self.end_line()
-    }
+/// Appends the line of a message.
+fn write_message_line(output: &mut Output, name: &Name, class: Class) -> Result<(), OutOfMemory>
+    requires { IsTrue (is_word_text name.now) }
+    ensures { OnOk result (output.new ≡ output.old ++ line_text (message_line (name.now, class))) }
+{
+    output.word(Reserved::Message)?;
+    write_name(output, name)?;
+    write_word(output, class_word(class))?;
+    output.end_line()
+}
 
-    /// Appends the line of the message at a place, where there is one.
-    fn message_at(&mut self, messages: &Named<Class>, place: usize) -> Result<(), OutOfMemory>
-        ensures { OnOk result (self.new ≡ self.old ++ lines_text (map message_line (option_to_list (slice_get messages.now place)))) }
-    {
-        match messages.name(place) {
-            Some(name) => match messages.value(place) {
-                Some(class) => self.message_line(name, *class),
-                None => Ok(()),
-            },
+/// Appends the line of the message at a place, where there is one.
+fn write_message_at(output: &mut Output, p: &Protocol, place: usize) -> Result<(), OutOfMemory>
+    ensures { OnOk result (output.new ≡ output.old ++ lines_text (map message_line (option_to_list (slice_get p.now.messages place)))) }
+{
+    // This call says that the protocol is lawful, so that its names are words.
+    let _root = p.part(Kind::Root);
+    match p.messages().name(place) {
+        Some(name) => match p.messages().value(place) {
+            Some(class) => write_message_line(output, name, *class),
             None => Ok(()),
-        }
+        },
+        None => Ok(()),
     }
+}
 
-    /// Appends the lines of messages.
-    fn messages(&mut self, messages: &Named<Class>) -> Result<(), OutOfMemory>
-        ensures { OnOk result (self.new ≡ self.old ++ lines_text (map message_line messages.now)) }
-    {
-        for place in 0..messages.len() {
-            self.message_at(messages, place)?;
-        }
-        Ok(())
+/// Appends the lines of the messages.
+fn write_messages(output: &mut Output, p: &Protocol) -> Result<(), OutOfMemory>
+    ensures { OnOk result (output.new ≡ output.old ++ lines_text (map message_line p.now.messages)) }
+{
+    for place in 0..p.messages().len() {
+        write_message_at(output, p, place)?;
     }
+    Ok(())
+}
 
-    /// Appends the lines of the name, the statuses and the messages.
-    fn declarations(&mut self, p: &Protocol) -> Result<(), OutOfMemory>
-        ensures { OnOk result (self.new ≡ self.old ++ lines_text (declaration_lines p.now)) }
-    {
-        self.first(Reserved::Protocol)?;
-        self.name(p.name().as_bytes())?;
-        self.end_line()?;
-        self.first(Reserved::Status)?;
-        self.statuses(p.statuses().as_slice())?;
-        self.end_line()?;
-        self.messages(p.messages())
-    }
+/// Appends the lines of the name, the statuses and the messages.
+fn write_declarations(output: &mut Output, p: &Protocol) -> Result<(), OutOfMemory>
+    ensures { OnOk result (output.new ≡ output.old ++ lines_text (declaration_lines p.now)) }
+{
+    // This call says that the protocol is lawful, so that its names are words.
+    let _root = p.part(Kind::Root);
+    output.word(Reserved::Protocol)?;
+    write_name(output, p.name())?;
+    output.end_line()?;
+    output.word(Reserved::Status)?;
+    write_statuses(output, p)?;
+    output.end_line()?;
+    write_messages(output, p)
 }
 
 /// The canonical text of a protocol.
@@ -72,10 +77,10 @@ pub fn protocol_text(alloc: Global, p: &Protocol) -> Result<String, OutOfMemory>
     ensures { IfOk result (λ text. string_bytes text ≡ protocol_text p.now) }
 {
     let mut output = Output::new(alloc);
-    output.declarations(p)?;
-    output.kind(p, Reserved::Root, p.part(Kind::Root))?;
-    output.kind(p, Reserved::Mid, p.part(Kind::Mid))?;
-    output.kind(p, Reserved::Leaf, p.part(Kind::Leaf))?;
-    output.bytes(b"end\n")?;
-    Ok(output.into_text())
+    write_declarations(&mut output, p)?;
+    write_kind(&mut output, p, Kind::Root, Reserved::Root)?;
+    write_kind(&mut output, p, Kind::Mid, Reserved::Mid)?;
+    write_kind(&mut output, p, Kind::Leaf, Reserved::Leaf)?;
+    output.text("end\n")?;
+    Ok(output.into_string())
 }

@@ -1,4 +1,3 @@
 pub mod JoinedTexts
-pub mod NameTexts
 pub mod StateTexts
 pub mod Examples

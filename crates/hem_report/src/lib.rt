@@ -8,7 +8,6 @@ mod lists;
 mod locals;
 mod locks;
 mod names;
-mod output;
 mod states;
 
 pub use blocks::blocks_text;

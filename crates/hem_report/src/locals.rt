@@ -3,66 +3,71 @@
 ghost use Rattle.std.specs.Prelude.{◌≡◌, ◌++◌, OnOk};
 ghost use Rattle.hem_report.specs.LocalText.{numbers_of, values_text, locks_text, local_text, object_line};
 
-use crate::output::Output;
+use crate::fields::{write_dir, write_fields, write_kind};
+use crate::locks::{write_downlock, write_uplock};
 use hem_base::{Kind, ObjectId, OutOfMemory};
 use hem_object::Local;
+use hem_output::Output;
 use hem_syntax::Protocol;
 
-impl Output {
-    /// Appends the fields and the value.
-    fn values(&mut self, p: &Protocol, kind: Kind, local: &Local) -> Result<(), OutOfMemory>
-        ensures { OnOk result (self.new ≡ self.old ++ values_text p.now kind local.now) }
-    {
-        self.fields(p, kind, local.fields.as_slice())?;
-        self.text(" val=")?;
-        self.number(local.val)
-    }
+/// Appends the fields and the value.
+fn write_values(
+    output: &mut Output,
+    p: &Protocol,
+    kind: Kind,
+    local: &Local,
+) -> Result<(), OutOfMemory>
+    ensures { OnOk result (output.new ≡ output.old ++ values_text p.now kind local.now) }
+{
+    write_fields(output, p, kind, local.fields.as_slice())?;
+    output.text(" val=")?;
+    output.number(local.val)
+}
 
-    /// Appends both locks of an object with these children.
-    fn locks(
-        &mut self,
-        p: &Protocol,
-        children: &[ObjectId],
-        local: &Local,
-    ) -> Result<(), OutOfMemory>
-        ensures { OnOk result (self.new ≡ self.old ++ locks_text p.now (numbers_of children.now) local.now) }
-    {
-        self.text(" up=")?;
-        self.uplock(p, children, &local.up)?;
-        self.text(" down=")?;
-        self.downlock(p, children, &local.down)
-    }
+/// Appends both locks of an object with these children.
+fn write_locks(
+    output: &mut Output,
+    p: &Protocol,
+    children: &[ObjectId],
+    local: &Local,
+) -> Result<(), OutOfMemory>
+    ensures { OnOk result (output.new ≡ output.old ++ locks_text p.now (numbers_of children.now) local.now) }
+{
+    output.text(" up=")?;
+    write_uplock(output, p, children, &local.up)?;
+    output.text(" down=")?;
+    write_downlock(output, p, children, &local.down)
+}
 
-    /// Appends what an object of that kind, with these children, keeps of a line.
-    fn local(
-        &mut self,
-        p: &Protocol,
-        kind: Kind,
-        children: &[ObjectId],
-        local: &Local,
-    ) -> Result<(), OutOfMemory>
-        ensures { OnOk result (self.new ≡ self.old ++ local_text p.now kind (numbers_of children.now) local.now) }
-    {
-        self.values(p, kind, local)?;
-        self.locks(p, children, local)?;
-        self.dir(p, kind, local.dir.as_slice())?;
-        self.text("\n")
-    }
+/// Appends what an object of that kind, with these children, keeps of a line.
+fn write_local(
+    output: &mut Output,
+    p: &Protocol,
+    kind: Kind,
+    children: &[ObjectId],
+    local: &Local,
+) -> Result<(), OutOfMemory>
+    ensures { OnOk result (output.new ≡ output.old ++ local_text p.now kind (numbers_of children.now) local.now) }
+{
+    write_values(output, p, kind, local)?;
+    write_locks(output, p, children, local)?;
+    write_dir(output, p, kind, local.dir.as_slice())?;
+    output.text("\n")
+}
 
-    /// Appends the line of an object.
-    pub(crate) fn object_line(
-        &mut self,
-        p: &Protocol,
-        kind: Kind,
-        children: &[ObjectId],
-        object: usize,
-        local: &Local,
-    ) -> Result<(), OutOfMemory>
-        ensures { OnOk result (self.new ≡ self.old ++ object_line p.now kind (numbers_of children.now) object local.now) }
-    {
-        self.number(object as u64)?;
-        self.text(" ")?;
-        self.kind(kind)?;
-        self.local(p, kind, children, local)
-    }
+/// Appends the line of an object.
+pub(crate) fn write_object_line(
+    output: &mut Output,
+    p: &Protocol,
+    kind: Kind,
+    children: &[ObjectId],
+    object: usize,
+    local: &Local,
+) -> Result<(), OutOfMemory>
+    ensures { OnOk result (output.new ≡ output.old ++ object_line p.now kind (numbers_of children.now) object local.now) }
+{
+    output.number(object as u64)?;
+    output.text(" ")?;
+    write_kind(output, kind)?;
+    write_local(output, p, kind, children, local)
 }

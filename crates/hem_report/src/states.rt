@@ -6,101 +6,111 @@ ghost use Rattle.hem_report.specs.Texts.{text_of_each};
 ghost use Rattle.hem_report.specs.StateText.{object_line_of, object_text, line_text, state_text, word_of};
 ghost use Rattle.hem_report.specs.Places.{text_at};
 
-use crate::output::Output;
+use crate::lists::write_lists_at;
+use crate::locals::write_object_line;
 use hem_base::{ObjectId, OutOfMemory};
 use hem_object::Local;
+use hem_output::Output;
 use hem_syntax::Protocol;
 use hem_system::System;
 use hem_tree::Tree;
 use std::alloc::Global;
 
-impl Output {
-    /// Appends the line of an object, where the tree has it.
-    fn object_of(
-        &mut self,
-        p: &Protocol,
-        tree: &Tree,
-        object: usize,
-        local: &Local,
-    ) -> Result<(), OutOfMemory>
-        ensures { OnOk result (self.new ≡ self.old ++ object_line_of p.now tree.now object local.now) }
-    {
-        if object >= tree.objects() as usize {
-            return Ok(());
-        }
-        let id = ObjectId(object as u32);
-        self.object_line(p, tree.kind(id), tree.children(id), object, local)
+/// Appends the line of an object, where the tree has it.
+fn write_object_of(
+    output: &mut Output,
+    p: &Protocol,
+    tree: &Tree,
+    object: usize,
+    local: &Local,
+) -> Result<(), OutOfMemory>
+    ensures { OnOk result (output.new ≡ output.old ++ object_line_of p.now tree.now object local.now) }
+{
+    if object >= tree.objects() as usize {
+        return Ok(());
     }
+    let id = ObjectId(object as u32);
+    write_object_line(output, p, tree.kind(id), tree.children(id), object, local)
+}
 
-    /// Appends the lines of the object at a place on the line at a place.
-    fn object(
-        &mut self,
-        p: &Protocol,
-        tree: &Tree,
-        s: &System,
-        line: usize,
-        object: usize,
-    ) -> Result<(), OutOfMemory>
-        requires line { line < length s.now }
-        requires object { object < length (slice_index_or s.now line []) }
-        ensures { OnOk result (self.new ≡ self.old ++ text_at (object_text p.now tree.now object) s.now line object) }
-    {
-        self.object_of(p, tree, object, s.local_at(line, object))?;
-        self.lists_at(p, s, line, object)
-    }
+/// Appends the lines of the object at a place on the line at a place.
+fn write_object(
+    output: &mut Output,
+    p: &Protocol,
+    tree: &Tree,
+    s: &System,
+    line: usize,
+    object: usize,
+) -> Result<(), OutOfMemory>
+    requires line { line < length s.now }
+    requires object { object < length (slice_index_or s.now line []) }
+    ensures { OnOk result (output.new ≡ output.old ++ text_at (object_text p.now tree.now object) s.now line object) }
+{
+    write_object_of(output, p, tree, object, s.local_at(line, object))?;
+    write_lists_at(output, p, s, line, object)
+}
 
-    /// Appends the lines of all objects on the line at a place.
-    fn objects(
-        &mut self,
-        p: &Protocol,
-        tree: &Tree,
-        s: &System,
-        line: usize,
-    ) -> Result<(), OutOfMemory>
-        requires { line < length s.now }
-        ensures { OnOk result (self.new ≡ self.old ++ text_of_each (object_text p.now tree.now) 0 (slice_index_or s.now line [])) }
-    {
-        for object in 0..s.objects(line) {
-            self.object(p, tree, s, line, object)?;
-        }
-        Ok(())
+/// Appends the lines of all objects on the line at a place.
+fn write_objects(
+    output: &mut Output,
+    p: &Protocol,
+    tree: &Tree,
+    s: &System,
+    line: usize,
+) -> Result<(), OutOfMemory>
+    requires { line < length s.now }
+    ensures { OnOk result (output.new ≡ output.old ++ text_of_each (object_text p.now tree.now) 0 (slice_index_or s.now line [])) }
+{
+    for object in 0..s.objects(line) {
+        write_object(output, p, tree, s, line, object)?;
     }
+    Ok(())
+}
 
-    /// Appends the state of the line at a place.
-    fn line(
-        &mut self,
-        p: &Protocol,
-        tree: &Tree,
-        s: &System,
-        line: usize,
-    ) -> Result<(), OutOfMemory>
-        requires { line < length s.now }
-        ensures { OnOk result (self.new ≡ self.old ++ line_text p.now tree.now line (slice_index_or s.now line [])) }
-    {
-        self.text("line ")?;
-        self.number(line as u64)?;
-        self.text("\n")?;
-        self.objects(p, tree, s, line)
-    }
+/// Appends the state of the line at a place.
+fn write_line(
+    output: &mut Output,
+    p: &Protocol,
+    tree: &Tree,
+    s: &System,
+    line: usize,
+) -> Result<(), OutOfMemory>
+    requires { line < length s.now }
+    ensures { OnOk result (output.new ≡ output.old ++ line_text p.now tree.now line (slice_index_or s.now line [])) }
+{
+    output.text("line ")?;
+    output.number(line as u64)?;
+    output.text("\n")?;
+    write_objects(output, p, tree, s, line)
+}
 
-    /// Appends the states of all lines.
-    fn lines(&mut self, p: &Protocol, tree: &Tree, s: &System) -> Result<(), OutOfMemory>
-        ensures { OnOk result (self.new ≡ self.old ++ text_of_each (line_text p.now tree.now) 0 s.now) }
-    {
-        for line in 0..s.lines() {
-            self.line(p, tree, s, line)?;
-        }
-        Ok(())
+/// Appends the states of all lines.
+fn write_lines(
+    output: &mut Output,
+    p: &Protocol,
+    tree: &Tree,
+    s: &System,
+) -> Result<(), OutOfMemory>
+    ensures { OnOk result (output.new ≡ output.old ++ text_of_each (line_text p.now tree.now) 0 s.now) }
+{
+    for line in 0..s.lines() {
+        write_line(output, p, tree, s, line)?;
     }
+    Ok(())
+}
 
-    /// Appends a state.
-    fn state(&mut self, p: &Protocol, tree: &Tree, s: &System) -> Result<(), OutOfMemory>
-        ensures { OnOk result (self.new ≡ self.old ++ state_text p.now tree.now s.now) }
-    {
-        self.text("state\n")?;
-        self.lines(p, tree, s)?;
-        self.text("end\n")
-    }
+/// Appends a state.
+fn write_state(
+    output: &mut Output,
+    p: &Protocol,
+    tree: &Tree,
+    s: &System,
+) -> Result<(), OutOfMemory>
+    ensures { OnOk result (output.new ≡ output.old ++ state_text p.now tree.now s.now) }
+{
+    output.text("state\n")?;
+    write_lines(output, p, tree, s)?;
+    output.text("end\n")
 }
 
 /// The text of a state: for each line, what each object keeps of it and each list that isn't empty. Of an object that
@@ -114,7 +124,7 @@ pub fn state_text(
     ensures { IfOk result (λ text. string_bytes text ≡ state_text p.now tree.now s.now) }
 {
     let mut output = Output::new(alloc);
-    output.state(p, tree, s)?;
+    write_state(&mut output, p, tree, s)?;
     Ok(output.into_string())
 }
 

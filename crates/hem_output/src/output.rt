@@ -1,0 +1,94 @@
+//! A text that grows at its end.
+
+ghost use Rattle.std.specs.Prelude.{◌≡◌, [], ◌++◌, OnOk, IsTrue, codes, decimal};
+ghost use Rattle.std.specs.String.{string_bytes};
+ghost use Rattle.hem_base.specs.Words.{word_bytes, is_word_text};
+
+use hem_base::{Name, OutOfMemory, Reserved, word_bytes};
+use itoa::Buffer;
+use std::alloc::Global;
+use std::marker::Model;
+
+/// A text that grows at its end, seen as its bytes. Where an append fails for want of memory, nothing is said of
+/// the text.
+#[derive(Drop)]
+pub struct Output {
+    text: String,
+}
+
+impl Model for Output {
+    ghost use Rattle.std.specs.Prelude.{List, ℕ};
+    ghost use Rattle.std.specs.String.{string_bytes};
+
+    ghost Value = { List ℕ };
+
+    ghost view = { λ o. string_bytes o.text };
+}
+
+impl Output {
+    /// The empty text. It takes no memory.
+    pub fn new(alloc: Global) -> Output
+        ensures { result ≡ [] }
+    {
+        Output {
+            text: String::new(alloc),
+        }
+    }
+
+    /// The text. It takes no memory.
+    pub fn into_string(self) -> String
+        ensures { string_bytes result ≡ self }
+    {
+        let Output { text } = self;
+        text
+    }
+
+    /// Appends a text.
+    pub fn text(&mut self, text: &str) -> Result<(), OutOfMemory>
+        ensures { OnOk result (self.new ≡ self.old ++ text.now) }
+    {
+        self.text.push_str(text)?;
+        Ok(())
+    }
+
+    /// Appends a number in decimal.
+    pub fn number(&mut self, number: u64) -> Result<(), OutOfMemory>
+        ensures { OnOk result (self.new ≡ self.old ++ decimal number) }
+    {
+        let mut buffer = Buffer::new();
+        self.text(buffer.format(number))
+    }
+
+    /// Appends a word: letters, digits and `_`, of which the first is a letter.
+    fn letters(&mut self, word: &[u8]) -> Result<(), OutOfMemory>
+        requires { IsTrue (is_word_text word.now) }
+        ensures { OnOk result (self.new ≡ self.old ++ word.now) }
+    {
+        match str::from_utf8(word) {
+            Ok(text) => self.text(text),
+            Err(_) => unreachable!("a word is ASCII"),
+        }
+    }
+
+    /// Appends a name that is a word, as every declared name is.
+    pub fn name(&mut self, name: &Name) -> Result<(), OutOfMemory>
+        requires { IsTrue (is_word_text name.now) }
+        ensures { OnOk result (self.new ≡ self.old ++ name.now) }
+    {
+        self.letters(name.as_bytes())
+    }
+
+    /// Appends a reserved word.
+    pub fn word(&mut self, word: Reserved) -> Result<(), OutOfMemory>
+        ensures { OnOk result (self.new ≡ self.old ++ word_bytes word) }
+    {
+        self.letters(word_bytes(word))
+    }
+
+    /// Ends a line.
+    pub fn end_line(&mut self) -> Result<(), OutOfMemory>
+        ensures { OnOk result (self.new ≡ self.old ++ codes "\n") }
+    {
+        self.text("\n")
+    }
+}

@@ -1,7 +1,0 @@
-use Rattle.std.proofs.Common.{◌≡◌, ◌++◌, map, drop}
-use Rattle.hem_print.specs.Canonical.{named, words_text}
-use Rattle.hem_print.proofs.output.Output.statuses.Given as goal
-
--- the text so far and the names that are left make the whole text
-abbrev pub invariant-loop-name : goal.invariant-loop-name
-invariant-loop-name l = l.self ++ words_text (map (λ s. named s) (drop l.name-index l.statuses)) ≡ l.fn.self ++ words_text (map (λ s. named s) l.statuses)

@@ -1,8 +1,0 @@
-use Rattle.std.proofs.Common.{◌≡◌, ◌++◌, drop}
-use Rattle.std.specs.List.{flat_map}
-use Rattle.hem_report.specs.BlocksText.{block_text}
-use Rattle.hem_report.proofs.output.Output.each_block.Given as goal
-
--- the text so far and the blocks that are left make the whole text
-abbrev pub invariant-loop-block : goal.invariant-loop-block
-invariant-loop-block l = l.self ++ flat_map (block_text l.p) (drop l.block-index l.blocks) ≡ l.fn.self ++ flat_map (block_text l.p) l.blocks

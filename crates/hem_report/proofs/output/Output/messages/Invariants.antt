@@ -1,7 +1,0 @@
-use Rattle.std.proofs.Common.{◌≡◌, ◌++◌, drop}
-use Rattle.hem_report.specs.StateText.{messages_text}
-use Rattle.hem_report.proofs.output.Output.messages.Given as goal
-
--- the text so far and the messages that are left make the whole text
-abbrev pub invariant-loop-message : goal.invariant-loop-message
-invariant-loop-message l = l.self ++ messages_text l.p (drop l.message-index l.messages) ≡ l.fn.self ++ messages_text l.p l.messages
