@@ -9,6 +9,8 @@ mod call;
 #[cfg(test)]
 mod cut_documents;
 #[cfg(test)]
+mod documents;
+#[cfg(test)]
 mod firings;
 #[cfg(test)]
 mod greatest;

@@ -10,6 +10,3 @@ pub use documents::{Document, TreeDocument, WorkDocument};
 pub use laws::{documents_are_read_once, setups_have_one_fault};
 pub use reading::{read_document, read_protocol_document, read_tree_document, read_work_document};
 pub use setting_up::{Lawful, set_up};
-
-#[cfg(test)]
-mod tests;

@@ -17,6 +17,3 @@ mod words;
 mod written;
 
 pub use reading::protocol;
-
-#[cfg(test)]
-mod tests;

@@ -1,7 +1,9 @@
-use crate::{
+//! Documents of one to four parts, and their setting up.
+
+use hem_base::OutOfMemory;
+use hem_document::{
     read_document, read_protocol_document, read_tree_document, read_work_document, set_up,
 };
-use hem_base::OutOfMemory;
 use hem_text::TextError;
 use hem_tree::SetupError;
 use std::alloc::Global;
