@@ -11,7 +11,7 @@ use self::scene::{Change, Fires, I, M, S, Scene, Stays};
 use crate::reading::protocol_of;
 use arrayvec::ArrayVec;
 use hem_base::{Kind, Message, RuleId, Status8};
-use hem_fire::{Heads, Outs, can, fire};
+use hem_fire::{Heads, Outs, Plan, can};
 use hem_object::Local;
 use hem_syntax::{Protocol, Rule};
 use std::alloc::Global;
@@ -112,10 +112,10 @@ fn fires<R: Abort>(rt: &R, p: &Protocol, kind: Kind, row: &Fires) -> Result<(), 
     let rule = rule_of(p, kind, row.rule)?;
     let heads = heads_of(&row.scene);
     let mut local = local_of(&row.scene)?;
-    if !can(p, kind, rule, row.child, &local, &heads) {
+    let Some(plan) = Plan::of(p, kind, rule, row.child, &local, &heads) else {
         return Err(row.rule)?;
-    }
-    let outs = fire(p, kind, rule, row.child, &mut local, &heads);
+    };
+    let outs = plan.fire(rule, &mut local);
     assert_eq!(rt; outs, outs_of(row), "{}", row.rule);
     is_left(rt, row.rule, &local, &left_of(row)?);
     Ok(())

@@ -8,6 +8,7 @@ use std::test::Fail;
 use std::thread::Threads;
 
 /// A row of a table.
+#[derive(Clone, Copy)]
 pub struct Row<'a> {
     pub what: &'a str,
     pub answer: &'a str,

@@ -114,13 +114,13 @@ end
     },
 ];
 
-fn worked() -> &'static [Worked] {
+fn rows() -> &'static [Worked] {
     &WORKED
 }
 
 #[test]
 fn worked_histories(rt: HostRuntime) -> Result<(), Fail> {
-    for row in worked() {
+    for row in rows() {
         let document = Vec::from_slice(rt.alloc(), row.document.as_bytes())?;
         check(&rt, rt.alloc(), document, Status::Done, row.answer)?;
     }

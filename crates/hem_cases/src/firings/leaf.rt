@@ -2,7 +2,8 @@
 
 use super::scene::Change::{Down, Field, Up, Value};
 use super::scene::{
-    Fires, GET, GET_R, INV, LD, M, NOTHING, S, Scene, Stays, TAKES_REQUEST, fires, held, message, stays,
+    Fires, GET, GET_R, INV, LD, M, NOTHING, S, Scene, Stays, TAKES_REQUEST, fires, held, message,
+    stays,
 };
 use hem_fire::To;
 use hem_object::By;

@@ -2,7 +2,8 @@
 
 use super::scene::Change::{Down, Entry, Field, Up, Value};
 use super::scene::{
-    Fires, GET, GET_R, I, INV, INV_R, LD, LD_R, M, NOTHING, S, Scene, Stays, TAKES_NOTHING, TAKES_PARENT, TAKES_REQUEST, Taken, fires, held, message, responses, stays,
+    Fires, GET, GET_R, I, INV, INV_R, LD, LD_R, M, NOTHING, S, Scene, Stays, TAKES_NOTHING,
+    TAKES_PARENT, TAKES_REQUEST, Taken, fires, held, message, responses, stays,
 };
 use hem_base::KidSet;
 use hem_fire::To;
@@ -49,7 +50,11 @@ const PARENT: Scene = Scene {
     down: held!(By::Parent; INV 8; 5),
     request: Some(message!(GET 3)),
     parent: Some(message!(INV 8)),
-    kids: &[Some(message!(INV_R 2)), Some(message!(INV_R 5)), Some(message!(INV_R 6))],
+    kids: &[
+        Some(message!(INV_R 2)),
+        Some(message!(INV_R 5)),
+        Some(message!(INV_R 6)),
+    ],
 };
 
 /// The child for which the downlock is held is itself awaited.

@@ -1,8 +1,6 @@
 //! Firings at a root that differ from those at a mid.
 
-use super::scene::{
-    Fires, GET, I, INV, M, S, Scene, Stays, TAKES_NOTHING, fires, message, stays,
-};
+use super::scene::{Fires, GET, I, INV, M, S, Scene, Stays, TAKES_NOTHING, fires, message, stays};
 use hem_base::KidSet;
 use hem_fire::To;
 

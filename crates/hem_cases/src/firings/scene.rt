@@ -137,4 +137,8 @@ macro_rules! stays {
     };
 }
 
-pub(super) use {fires, held, message, responses, stays};
+pub(super) use fires;
+pub(super) use held;
+pub(super) use message;
+pub(super) use responses;
+pub(super) use stays;
