@@ -12,8 +12,9 @@ use Rattle.hem_syntax.specs.Protocol.{Text, Protocol, KindPart}
 use Rattle.hem_syntax.specs.Lawful.{is_declarable, are_distinct}
 use Rattle.hem_grammar.specs.Draft.{Read, is_in, is_among, place_among}
 use Rattle.hem_text.specs.Spelling.{is_word}
-use Rattle.hem_print.specs.Canonical.{Word, plain, word_kind, spelling, status_name, message_name, field_name}
+use Rattle.hem_print.specs.Canonical.{Word, plain, spelling, status_name, message_name, field_name}
 use Rattle.hem_print.proofs.Naming.{name_at, place_of_name, name_known, not_word, among_is, place_among_is, pair_name, length_names}
+use Rattle.hem_print.proofs.Steps.{lex}
 use Rattle.hem_print.proofs.SetRuns.{status_in}
 
 -- what has been read beside the declarations, the fields and the rule that is being read
@@ -96,7 +97,7 @@ pub record IsPastSet (p : Protocol) (ws : List Word) : Type 0 where
   pub word : Word
   pub others : List Word
   pub is : ws ≡ word ∷ others
-  pub stops : (is_word (word_kind word) && is_in p.statuses (spelling word)) ≡ false
+  pub stops : (is_word (lex word) && is_in p.statuses (spelling word)) ≡ false
 
 -- where a rule may go on after its guard
 pub data Part : Type 0 where

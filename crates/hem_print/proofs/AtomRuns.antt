@@ -36,8 +36,8 @@ pub record HoldsSet (make : StatusSet → Atom) : Type 0 where
 atom_fills : (p : Protocol) (k : KindPart) (c : Around) (x : Rule) (make : StatusSet → Atom) → HoldsSet make →
     Fills p.statuses (λ s. env p k c (and_atom x (make s))) (the.Atom atom.Status) (the.Atom atom.More) item.AtomMore
 atom_fills p k c x make holds = record {
-  first_spelled = λ s q text. refl;
-  more_spelled = λ s q text. refl;
+  first_spelled = λ s t. refl;
+  more_spelled = λ s t. refl;
   first_fresh = λ s text. refl;
   more_fresh = λ s text. ap (λ (y : Atom). not (has_bit (atom_set y).0 (status_in p.statuses text).0)) (last_snoc no_atom x.guard (make s)) ∙ ap (λ (y : StatusSet). not (has_bit y.0 (status_in p.statuses text).0)) (holds.has s);
   first_within = λ s text. refl;

@@ -1,96 +1,67 @@
 -- The tokens of a text of lines are its words.
-use Rattle.std.proofs.Common.{◌≡◌, ℕ, suc, ◌+◌, ◌-◌, Bool, true, false, not, List, [], ◌∷◌, ◌++◌, map, length, length-append, take, drop, refl, sym, ap, ◌∙◌, arith, append_assoc, subst}
+use Rattle.std.proofs.Common.{◌≡◌, ℕ, suc, ◌-◌, Bool, true, false, not, List, [], ◌∷◌, ◌++◌, map, length, take, refl, sym, ap, ◌∙◌, arith, append_assoc, subst}
 use Rattle.std.specs.Prelude.{fold}
 use Rattle.std.specs.List.{list_all, prefix_len}
 use Rattle.std.specs.Char.{is_ascii_alphabetic}
 use Rattle.hem_text.specs.declared.text.TokenKind.{TokenKind}
 use Rattle.hem_text.specs.declared.text.TokenKind.TheVariants as kind
-use Rattle.hem_text.specs.declared.text.Token.{Token}
 use Rattle.hem_text.specs.declared.text.Place.{Place}
 use Rattle.hem_text.specs.declared.text.Piece.{Piece}
 use Rattle.hem_base.specs.declared.words.Reserved.{Reserved}
 use Rattle.hem_base.specs.declared.words.Reserved.TheVariants as word
 use Rattle.hem_base.specs.declared.words.Sign.{Sign}
 use Rattle.hem_base.specs.declared.words.Sign.TheVariants as sign
-use Rattle.hem_text.specs.Grammars.{Lexeme, lexeme}
+use Rattle.hem_text.specs.Lexemes.{Lexeme}
 use Rattle.hem_text.specs.Tokens.{is_space, begins_comment, is_pair, kind_of_run, token, run_at, piece_of, advance, with_token, tokens_from, tokens_of, start_place}
-use Rattle.hem_base.specs.Words.{is_word_byte}
-use Rattle.hem_base.specs.Words.{word_bytes, sign_bytes, is_word_text}
+use Rattle.hem_base.specs.Words.{is_word_byte, word_bytes, sign_bytes, is_word_text}
+use Rattle.hem_output.proofs.Ascii.{reserved_is_word}
 use Rattle.hem_print.specs.Canonical.{Word, plain, named, signed, nought, word_kind, spelling, gap, words_text, Line, line_text, lines_text}
 use Rattle.std.proofs.lemmas.List.Folds.{list_all-append}
 use Rattle.hem_print.proofs.Naming.{and_left, and_right, cond_true, cond_false, not_true}
-use Rattle.hem_print.proofs.Steps.{lex}
+use Rattle.hem_print.proofs.Steps.{lex, bare}
 use Rattle.hem_print.proofs.RuleRuns.{words_of}
 
--- a token of a text, as if it stood at the first place
-abbrev pub bare : List ℕ → Token → Lexeme
-bare bytes t = lexeme t.kind (take (t.end - t.start) (drop t.start bytes)) start_place
-
--- the tokens of a text behind any other are these words
+-- the tokens of a text, wherever it stands, are these words
 pub record Lexes (cur : List ℕ) (ws : List Word) : Type 0 where
-  pub is : (pre : List ℕ) (place : Place) → map (bare (pre ++ cur)) (tokens_from 0 (length pre) place cur) ≡ map lex ws
+  pub is : (place : Place) → map bare (tokens_from 0 place cur) ≡ map lex ws
 
 lexes_nothing : Lexes [] []
-lexes_nothing = record { is = λ pre place. refl }
+lexes_nothing = record { is = λ place. refl }
 
 -- white space
 
-longer : (pre : List ℕ) (b : ℕ) → length (pre ++ b ∷ []) ≡ length pre + 1
-longer pre b = length-append pre (b ∷ [])
+lexes_space : (cur : List ℕ) (ws : List Word) → Lexes cur ws → Lexes (32 ∷ cur) ws
+lexes_space cur ws rest = record { is = λ place. rest.is (advance place 32) }
 
-behind : (pre cur : List ℕ) (b : ℕ) (place : Place) (ws : List Word) → Lexes cur ws → map (bare (pre ++ b ∷ cur)) (tokens_from 0 (length pre + 1) place cur) ≡ map lex ws
-behind pre cur b place ws rest =
-    ap (λ (l : List ℕ). map (bare l) (tokens_from 0 (length pre + 1) place cur)) (sym (append_assoc pre (b ∷ []) cur))
-    ∙ ap (λ (n : ℕ). map (bare ((pre ++ b ∷ []) ++ cur)) (tokens_from 0 n place cur)) (sym (longer pre b))
-    ∙ rest.is (pre ++ b ∷ []) place
-
-pub lexes_space : (cur : List ℕ) (ws : List Word) → Lexes cur ws → Lexes (32 ∷ cur) ws
-lexes_space cur ws rest = record { is = λ pre place. behind pre cur 32 (advance place 32) ws rest }
-
-pub lexes_feed : (cur : List ℕ) (ws : List Word) → Lexes cur ws → Lexes (10 ∷ cur) ws
-lexes_feed cur ws rest = record { is = λ pre place. behind pre cur 10 (advance place 10) ws rest }
+lexes_feed : (cur : List ℕ) (ws : List Word) → Lexes cur ws → Lexes (10 ∷ cur) ws
+lexes_feed cur ws rest = record { is = λ place. rest.is (advance place 10) }
 
 -- tokens
 
-pass : (bs cur : List ℕ) (at : ℕ) (place : Place) → tokens_from (length bs) at place (bs ++ cur) ≡ tokens_from 0 (at + length bs) (fold advance place bs) cur
-pass [] cur at place = let e : at ≡ at + 0 = omega arith in ap (λ (n : ℕ). tokens_from 0 n place cur) e
-pass (b ∷ bs) cur at place =
-    let e : at + 1 + length bs ≡ at + suc (length bs) = omega arith in
-    pass bs cur (at + 1) (advance place b) ∙ ap (λ (n : ℕ). tokens_from 0 n (fold advance (advance place b) bs) cur) e
-
-drop_front : (pre cur : List ℕ) → drop (length pre) (pre ++ cur) ≡ cur
-drop_front [] cur = refl
-drop_front (b ∷ pre) cur = drop_front pre cur
+pass : (bs cur : List ℕ) (place : Place) → tokens_from (length bs) place (bs ++ cur) ≡ tokens_from 0 (fold advance place bs) cur
+pass [] cur place = refl
+pass (b ∷ bs) cur place = pass bs cur (advance place b)
 
 take_front : (t cur : List ℕ) → take (length t) (t ++ cur) ≡ t
 take_front [] cur = refl
 take_front (b ∷ t) cur = ap (λ (l : List ℕ). b ∷ l) (take_front t cur)
 
-text_is : (pre t cur : List ℕ) → take (length pre + length t - length pre) (drop (length pre) (pre ++ (t ++ cur))) ≡ t
-text_is pre t cur =
-    let n : length pre + length t - length pre ≡ length t = omega arith in
-    rw (n, drop_front pre (t ++ cur)) (take_front t cur)
-
 -- a token at the front
-pub lexes_token : (w : Word) (b : ℕ) (bs cur : List ℕ) (ws : List Word) → spelling w ≡ b ∷ bs → piece_of (b ∷ (bs ++ cur)) ≡ token (word_kind w) (suc (length bs)) → Lexes cur ws → Lexes (b ∷ (bs ++ cur)) (w ∷ ws)
-lexes_token w b bs cur ws spelled piece rest = record { is = λ pre place. at pre place }
+lexes_token : (w : Word) (b : ℕ) (bs cur : List ℕ) (ws : List Word) → spelling w ≡ b ∷ bs → piece_of (b ∷ (bs ++ cur)) ≡ token (word_kind w) (suc (length bs)) → Lexes cur ws → Lexes (b ∷ (bs ++ cur)) (w ∷ ws)
+lexes_token w b bs cur ws spelled piece rest = record { is = λ place. at place }
   where
-    at : (pre : List ℕ) (place : Place) → map (bare (pre ++ (b ∷ (bs ++ cur)))) (tokens_from 0 (length pre) place (b ∷ (bs ++ cur))) ≡ lex w ∷ map lex ws
-    at pre place =
-        let all = pre ++ (b ∷ (bs ++ cur)) in
+    here : List ℕ → Lexeme
+    here text = record { kind = word_kind w; text = text; place = start_place }
+
+    at : (place : Place) → map bare (tokens_from 0 place (b ∷ (bs ++ cur))) ≡ lex w ∷ map lex ws
+    at place =
         let n : suc (length bs) - 1 ≡ length bs = omega arith in
-        let e : length pre + 1 + length bs ≡ length pre + suc (length bs) = omega arith in
-        let whole : pre ++ (b ∷ (bs ++ cur)) ≡ (pre ++ b ∷ bs) ++ cur = sym (append_assoc pre (b ∷ bs) cur) in
-        let far : length pre + suc (length bs) ≡ length (pre ++ b ∷ bs) = sym (length-append pre (b ∷ bs)) in
-        let later = fold advance (advance place b) bs in
-        ap (λ (q : Piece). map (bare all) (with_token q (length pre) place (tokens_from (q.len - 1) (length pre + 1) (advance place b) (bs ++ cur)))) piece
-        ∙ ap (λ (l : List Lexeme). lexeme (word_kind w) (take (length pre + suc (length bs) - length pre) (drop (length pre) all)) start_place ∷ l)
-        (ap (λ (k : ℕ). map (bare all) (tokens_from k (length pre + 1) (advance place b) (bs ++ cur))) n
-        ∙ ap (map (bare all)) (pass bs cur (length pre + 1) (advance place b))
-        ∙ ap (λ (k : ℕ). map (bare all) (tokens_from 0 k later cur)) (e ∙ far)
-        ∙ ap (λ (l : List ℕ). map (bare l) (tokens_from 0 (length (pre ++ b ∷ bs)) later cur)) whole
-        ∙ rest.is (pre ++ b ∷ bs) later)
-        ∙ ap (λ (t : List ℕ). lexeme (word_kind w) t start_place ∷ map lex ws) (text_is pre (b ∷ bs) cur ∙ sym spelled)
+        ap (λ (q : Piece). map bare (with_token q place (b ∷ (bs ++ cur)) (tokens_from (q.len - 1) (advance place b) (bs ++ cur)))) piece
+        ∙ ap (λ (l : List Lexeme). here (take (suc (length bs)) (b ∷ (bs ++ cur))) ∷ l)
+        (ap (λ (k : ℕ). map bare (tokens_from k (advance place b) (bs ++ cur))) n
+        ∙ ap (map bare) (pass bs cur (advance place b))
+        ∙ rest.is (fold advance (advance place b) bs))
+        ∙ ap (λ (t : List ℕ). here t ∷ map lex ws) (take_front (b ∷ bs) cur ∙ sym spelled)
 
 -- runs
 
@@ -128,10 +99,6 @@ word_piece b bs cur is apart =
     ∙ ap (λ (n : ℕ). token (kind_of_run (take n (b ∷ (bs ++ cur)))) n) len
     ∙ ap (λ (t : List ℕ). token (kind_of_run t) (suc (length bs))) (take_front (b ∷ bs) cur)
     ∙ ap (λ (k : TokenKind). token k (suc (length bs))) (cond_true _ _ _ letter)
-
-pub reserved_text : (w : Reserved) → is_word_text (word_bytes w) ≡ true
-reserved_text word.Protocol = refl
-reserved_text _ = refl
 
 -- a word that can be read: names are spelled as words
 abbrev pub is_good : Word → Bool
@@ -182,7 +149,7 @@ lexes_nought cur ws apart rest = lexes_token nought 48 [] cur ws refl piece rest
 
 -- a word at the front
 pub lexes_word : (w : Word) (cur : List ℕ) (ws : List Word) → is_good w ≡ true → is_apart cur ≡ true → Lexes cur ws → Lexes (spelling w ++ cur) (w ∷ ws)
-lexes_word (plain v) cur ws good apart rest = lexes_text (plain v) (word_bytes v) cur ws refl refl (reserved_text v) apart rest
+lexes_word (plain v) cur ws good apart rest = lexes_text (plain v) (word_bytes v) cur ws refl refl (reserved_is_word v) apart rest
 lexes_word (named n) cur ws good apart rest = lexes_text (named n) n cur ws refl refl good apart rest
 lexes_word (signed s) cur ws good apart rest = lexes_sign s cur ws rest
 lexes_word nought cur ws good apart rest = lexes_nought cur ws apart rest
@@ -246,6 +213,6 @@ lexes_lines (l ∷ ls) good =
     (lexes_words l.others (10 ∷ lines_text ls) (words_of ls) (and_right (is_good l.first) _ parts.0) refl
     (lexes_feed (lines_text ls) (words_of ls) (lexes_lines ls parts.1))))
 
--- the tokens of the text of lines, wherever they stand
-pub tokens_are : (ls : List Line) → list_all is_good (words_of ls) ≡ true → map (bare (lines_text ls)) (tokens_of (lines_text ls)) ≡ map lex (words_of ls)
-tokens_are ls good = (lexes_lines ls good).is [] start_place
+-- the tokens of the text of lines
+pub tokens_are : (ls : List Line) → list_all is_good (words_of ls) ≡ true → map bare (tokens_of (lines_text ls)) ≡ map lex (words_of ls)
+tokens_are ls good = (lexes_lines ls good).is start_place

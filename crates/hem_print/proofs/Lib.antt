@@ -1,5 +1,6 @@
 pub mod Led
 pub mod Steps
+pub mod Places
 pub mod Naming
 pub mod SetRuns
 pub mod Around

@@ -129,8 +129,8 @@ message_run p k c x names y rest id v has tail =
 
 kids_fills : (p : Protocol) (k : KindPart) (c : Around) (x : Rule) → Fills p.statuses (λ s. env p k c (record x { send = sending.Kids s no_message value.Zero })) (the.Send send.Status) (the.Send send.More) item.SendMore
 kids_fills p k c x = record {
-  first_spelled = λ s q text. refl;
-  more_spelled = λ s q text. refl;
+  first_spelled = λ s t. refl;
+  more_spelled = λ s t. refl;
   first_fresh = λ s text. refl;
   more_fresh = λ s text. refl;
   first_within = λ s text. refl;
@@ -144,8 +144,8 @@ kids_fills p k c x = record {
 
 others_fills : (p : Protocol) (k : KindPart) (c : Around) (x : Rule) → Fills p.statuses (λ s. env p k c (record x { send = sending.Others s no_message value.Zero })) (the.Send send.Status) (the.Send send.More) item.SendMore
 others_fills p k c x = record {
-  first_spelled = λ s q text. refl;
-  more_spelled = λ s q text. refl;
+  first_spelled = λ s t. refl;
+  more_spelled = λ s t. refl;
   first_fresh = λ s text. refl;
   more_fresh = λ s text. refl;
   first_within = λ s text. refl;

@@ -8,7 +8,7 @@ use Rattle.hem_base.specs.declared.ids.Status8.{Status8}
 use Rattle.hem_base.specs.declared.ids.StatusSet.{StatusSet}
 use Rattle.hem_text.specs.declared.symbol.Symbol.{Symbol}
 use Rattle.hem_text.specs.declared.symbol.Symbol.TheVariants.{One, Many}
-use Rattle.hem_text.specs.declared.text.TokenKind.{TokenKind}
+use Rattle.hem_text.specs.Lexemes.{Lexeme}
 use Rattle.hem_text.specs.Grammars.{state}
 use Rattle.hem_grammar.specs.declared.terminals.Terminal.{Terminal}
 use Rattle.hem_grammar.specs.declared.terminals.Item.{Item}
@@ -17,8 +17,8 @@ use Rattle.hem_syntax.specs.Protocol.{Text}
 use Rattle.hem_syntax.specs.Lawful.{are_distinct}
 use Rattle.hem_grammar.specs.Draft.{Read, is_in, place_in, bit, with_status, no_status, spells, is_fresh, is_within, after}
 use Rattle.hem_text.specs.Spelling.{is_word}
-use Rattle.hem_print.specs.Canonical.{Word, named, word_kind, spelling, names_in}
-use Rattle.hem_print.proofs.Steps.{go, picks, pick, skip}
+use Rattle.hem_print.specs.Canonical.{Word, named, spelling, names_in}
+use Rattle.hem_print.proofs.Steps.{lex, go, picks, pick, skip}
 use Rattle.hem_print.proofs.Naming.{name_at, place_of_name, name_known, cond_true, cond_false}
 
 -- the status of that name
@@ -27,8 +27,8 @@ status_in names text = record { 0 = unwrap_or (place_in names text) 0 }
 
 -- an environment that holds a set, which two terminals fill
 pub record Fills (names : List Text) (env : StatusSet → Read) (first more : Terminal) (item : Item) : Type 0 where
-  pub first_spelled : (s : StatusSet) (k : TokenKind) (text : Text) → spells (env s) first k text ≡ (is_word k && is_in names text)
-  pub more_spelled : (s : StatusSet) (k : TokenKind) (text : Text) → spells (env s) more k text ≡ (is_word k && is_in names text)
+  pub first_spelled : (s : StatusSet) (t : Lexeme) → spells (env s) first t ≡ (is_word t && is_in names t.text)
+  pub more_spelled : (s : StatusSet) (t : Lexeme) → spells (env s) more t ≡ (is_word t && is_in names t.text)
   pub first_fresh : (s : StatusSet) (text : Text) → is_fresh (env s) first text ≡ true
   pub more_fresh : (s : StatusSet) (text : Text) → is_fresh (env s) more text ≡ not (has_bit s.0 (status_in names text).0)
   pub first_within : (s : StatusSet) (text : Text) → is_within (env s) first text ≡ true
@@ -97,15 +97,15 @@ few_further : (i : ℕ) (n : Text) (ns : List Text) → i + length (n ∷ ns) �
 few_further i n ns few = omega arith
 
 module _ (names : List Text) (distinct : are_distinct names ≡ true) (env : StatusSet → Read) (first more : Terminal) (item : Item) (fills : Fills names env first more item)
-    (rest : List (Symbol Terminal Item)) (w : Word) (ws : List Word) (stops : (is_word (word_kind w) && is_in names (spelling w)) ≡ false) where
+    (rest : List (Symbol Terminal Item)) (w : Word) (ws : List Word) (stops : (is_word (lex w) && is_in names (spelling w)) ≡ false) where
   stop : (acc : StatusSet) → go (state (env acc) (Many item ∷ rest)) (w ∷ ws) ≡ go (state (env acc) rest) (w ∷ ws)
-  stop acc = skip (env acc) w ws (Many item) rest refl (ap (picks (env acc) w) fills.begins ∙ cond_false _ _ _ (fills.more_spelled acc (word_kind w) (spelling w) ∙ stops))
+  stop acc = skip (env acc) w ws (Many item) rest refl (ap (picks (env acc) w) fills.begins ∙ cond_false _ _ _ (fills.more_spelled acc (lex w) ∙ stops))
 
   read_more : (acc : StatusSet) (n : Text) (i : ℕ) (tail : List Word) → Here names n i → IsBelow i acc →
       go (state (env acc) (Many item ∷ rest)) (named n ∷ tail) ≡ go (state (env (with_status acc (record { 0 = i }))) (Many item ∷ rest)) tail
   read_more acc n i tail h below =
       pick (env acc) (named n) tail (Many item) rest more
-      (ap (picks (env acc) (named n)) fills.begins ∙ cond_true _ _ _ (fills.more_spelled acc _ n ∙ h.known))
+      (ap (picks (env acc) (named n)) fills.begins ∙ cond_true _ _ _ (fills.more_spelled acc (lex (named n)) ∙ h.known))
       (fills.more_fresh acc n ∙ ap (λ (s : Status8). not (has_bit acc.0 s.0)) h.place ∙ fresh_bit i acc below)
       (fills.more_within acc n)
       ∙ ap (λ (l : List (Symbol Terminal Item)). go (state (after (env acc) more n) (l ++ Many item ∷ rest)) tail) fills.more_ends
@@ -115,7 +115,7 @@ module _ (names : List Text) (distinct : are_distinct names ≡ true) (env : Sta
       go (state (env no_status) (One first ∷ Many item ∷ rest)) (named n ∷ tail) ≡ go (state (env (with_status no_status (record { 0 = i }))) (Many item ∷ rest)) tail
   read_first n i tail h =
       pick (env no_status) (named n) tail (One first) (Many item ∷ rest) first
-      (cond_true _ _ _ (fills.first_spelled no_status _ n ∙ h.known))
+      (cond_true _ _ _ (fills.first_spelled no_status (lex (named n)) ∙ h.known))
       (fills.first_fresh no_status n)
       (fills.first_within no_status n)
       ∙ ap (λ (l : List (Symbol Terminal Item)). go (state (after (env no_status) first n) (l ++ Many item ∷ rest)) tail) fills.first_ends
@@ -198,7 +198,7 @@ refills (a ∷ b ∷ c ∷ d ∷ e ∷ names) s some few lt = absurd (omega arit
 
 -- a set and what follows it
 pub set_run : (names : List Text) → are_distinct names ≡ true → (env : StatusSet → Read) (first more : Terminal) (item : Item) → Fills names env first more item →
-    (rest : List (Symbol Terminal Item)) (w : Word) (ws : List Word) → (is_word (word_kind w) && is_in names (spelling w)) ≡ false →
+    (rest : List (Symbol Terminal Item)) (w : Word) (ws : List Word) → (is_word (lex w) && is_in names (spelling w)) ≡ false →
     2 ≤ length names → length names ≤ 4 → (set : StatusSet) → (set.0 ≡ 0 → ⊥) → set.0 < 2 ^ length names →
     go (state (env no_status) (One first ∷ Many item ∷ rest)) (names_in set 0 names ++ w ∷ ws) ≡ go (state (env set) rest) (w ∷ ws)
 set_run names distinct env first more item fills rest w ws stops some few set non_empty lt =

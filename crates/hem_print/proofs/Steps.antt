@@ -4,7 +4,8 @@ use Rattle.std.specs.Prelude.{find, option_and_then, option_map}
 use Rattle.std.specs.Option.{option_or}
 use Rattle.std.proofs.lemmas.List.Folds.{find-append}
 use Rattle.hem_text.specs.declared.symbol.Symbol.{Symbol}
-use Rattle.hem_text.specs.Grammars.{Lexeme, lexeme, State, full, state, way_into, ways, takes, way_at, heads, past, can_pass, goes, next, run}
+use Rattle.hem_text.specs.Lexemes.{Lexeme}
+use Rattle.hem_text.specs.Grammars.{State, full, state, way_into, ways, takes, way_at, heads, past, can_pass, goes, next, run}
 use Rattle.hem_text.specs.Tokens.{start_place}
 use Rattle.hem_grammar.specs.declared.terminals.Terminal.{Terminal}
 use Rattle.hem_grammar.specs.declared.terminals.Item.{Item}
@@ -14,7 +15,11 @@ use Rattle.hem_print.specs.Canonical.{Word, word_kind, spelling}
 
 -- a word as a token of the first place
 abbrev pub lex : Word → Lexeme
-lex w = lexeme (word_kind w) (spelling w) start_place
+lex w = record { kind = word_kind w; text = spelling w; place = start_place }
+
+-- a token, as if it stood at the first place
+abbrev pub bare : Lexeme → Lexeme
+bare t = record { kind = t.kind; text = t.text; place = start_place }
 
 -- the state after these words, where each may come
 abbrev pub go : State Read Terminal Item → List Word → Option (State Read Terminal Item)
@@ -31,12 +36,12 @@ go_runs s (w ∷ ws) = and_then_alike (λ u. run full grammar u (map lex ws)) (�
 
 -- the terminal of a symbol that a word takes
 abbrev pub picks : Read → Word → List Terminal → Option Terminal
-picks e w xs = find (λ x. spells e x (word_kind w) (spelling w)) xs
+picks e w xs = find (λ x. spells e x (lex w)) xs
 
 find-ways_into : (rest : List (Symbol Terminal Item)) (e : Read) (w : Word) (xs : List Terminal) →
     find (takes grammar e (lex w)) (map (way_into grammar rest) xs) ≡ option_map (way_into grammar rest) (picks e w xs)
 find-ways_into rest e w [] = refl
-find-ways_into rest e w (x ∷ xs) = at (spells e x (word_kind w) (spelling w)) (find-ways_into rest e w xs)
+find-ways_into rest e w (x ∷ xs) = at (spells e x (lex w)) (find-ways_into rest e w xs)
   where
     at : (b : Bool) → find (takes grammar e (lex w)) (map (way_into grammar rest) xs) ≡ option_map (way_into grammar rest) (picks e w xs) →
         cond b (Some (way_into grammar rest x)) (find (takes grammar e (lex w)) (map (way_into grammar rest) xs)) ≡ option_map (way_into grammar rest) (cond b (Some x) (picks e w xs))

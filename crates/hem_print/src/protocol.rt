@@ -1,21 +1,25 @@
 //! Protocols.
 
 ghost use Rattle.std.specs.Prelude.{◌≡◌, ◌++◌, OnOk, IfOk, IsTrue, map, option_to_list, slice_get, string_bytes};
+ghost use Rattle.std.specs.List.{list_all};
 ghost use Rattle.hem_base.specs.Words.{is_word_text};
+ghost use Rattle.hem_syntax.specs.Lawful.{is_declarable};
 ghost use Rattle.hem_print.specs.Canonical.{named, words_text, line_text, lines_text, message_line, declaration_lines, protocol_text};
 
-use crate::names::{class_word, statuses_of, write_name, write_word};
+use crate::names::{statuses_of, write_name, write_word};
 use crate::rules::write_kind;
 use hem_base::{Kind, Name, OutOfMemory, Reserved};
+use hem_grammar::class_word;
 use hem_output::Output;
-use hem_syntax::{Class, Protocol};
+use hem_syntax::{Class, Named, Protocol};
 use std::alloc::Global;
 
-/// Appends the names of the statuses.
-fn write_statuses(output: &mut Output, p: &Protocol) -> Result<(), OutOfMemory>
-    ensures { OnOk result (output.new ≡ output.old ++ words_text (map (λ s. named s) p.now.statuses)) }
+/// Appends the names of statuses, which can be declared.
+fn write_statuses(output: &mut Output, statuses: &[Name]) -> Result<(), OutOfMemory>
+    requires { IsTrue (list_all is_declarable statuses.now) }
+    ensures { OnOk result (output.new ≡ output.old ++ words_text (map (λ s. named s) statuses.now)) }
 {
-    for name in statuses_of(p) {
+    for name in statuses {
         write_name(output, name)?;
     }
     Ok(())
@@ -32,14 +36,17 @@ fn write_message_line(output: &mut Output, name: &Name, class: Class) -> Result<
     output.end_line()
 }
 
-/// Appends the line of the message at a place, where there is one.
-fn write_message_at(output: &mut Output, p: &Protocol, place: usize) -> Result<(), OutOfMemory>
-    ensures { OnOk result (output.new ≡ output.old ++ lines_text (map message_line (option_to_list (slice_get p.now.messages place)))) }
+/// Appends the line of the message at a place, where there is one. The names can be declared.
+fn write_message_at(
+    output: &mut Output,
+    messages: &Named<Class>,
+    place: usize,
+) -> Result<(), OutOfMemory>
+    requires { IsTrue (list_all is_declarable (map (λ m. m.0) messages.now)) }
+    ensures { OnOk result (output.new ≡ output.old ++ lines_text (map message_line (option_to_list (slice_get messages.now place)))) }
 {
-    // This call says that the protocol is lawful, so that its names are words.
-    let _root = p.part(Kind::Root);
-    match p.messages().name(place) {
-        Some(name) => match p.messages().value(place) {
+    match messages.name(place) {
+        Some(name) => match messages.value(place) {
             Some(class) => write_message_line(output, name, *class),
             None => Ok(()),
         },
@@ -47,12 +54,13 @@ fn write_message_at(output: &mut Output, p: &Protocol, place: usize) -> Result<(
     }
 }
 
-/// Appends the lines of the messages.
-fn write_messages(output: &mut Output, p: &Protocol) -> Result<(), OutOfMemory>
-    ensures { OnOk result (output.new ≡ output.old ++ lines_text (map message_line p.now.messages)) }
+/// Appends the lines of messages, whose names can be declared.
+fn write_messages(output: &mut Output, messages: &Named<Class>) -> Result<(), OutOfMemory>
+    requires { IsTrue (list_all is_declarable (map (λ m. m.0) messages.now)) }
+    ensures { OnOk result (output.new ≡ output.old ++ lines_text (map message_line messages.now)) }
 {
-    for place in 0..p.messages().len() {
-        write_message_at(output, p, place)?;
+    for place in 0..messages.len() {
+        write_message_at(output, messages, place)?;
     }
     Ok(())
 }
@@ -61,15 +69,15 @@ fn write_messages(output: &mut Output, p: &Protocol) -> Result<(), OutOfMemory>
 fn write_declarations(output: &mut Output, p: &Protocol) -> Result<(), OutOfMemory>
     ensures { OnOk result (output.new ≡ output.old ++ lines_text (declaration_lines p.now)) }
 {
-    // This call says that the protocol is lawful, so that its names are words.
+    // This call says that the protocol is lawful, so that its names can be declared.
     let _root = p.part(Kind::Root);
     output.word(Reserved::Protocol)?;
     write_name(output, p.name())?;
     output.end_line()?;
     output.word(Reserved::Status)?;
-    write_statuses(output, p)?;
+    write_statuses(output, statuses_of(p))?;
     output.end_line()?;
-    write_messages(output, p)
+    write_messages(output, p.messages())
 }
 
 /// The canonical text of a protocol.

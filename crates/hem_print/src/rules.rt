@@ -1,12 +1,14 @@
 //! Rules and what else a kind says.
 
 ghost use Rattle.std.specs.Prelude.{◌≡◌, ◌++◌, OnOk, IsTrue, map};
+ghost use Rattle.std.specs.List.{list_all};
 ghost use Rattle.hem_base.specs.Words.{is_word_text};
 ghost use Rattle.hem_syntax.specs.Protocol.{part};
+ghost use Rattle.hem_syntax.specs.Lawful.{is_declarable};
 ghost use Rattle.hem_print.specs.Canonical.{words_text, line_text, lines_text, rule_words, rule_line, field_line, dir_lines, kind_lines};
 
 use crate::guards::{write_guard, write_sets};
-use crate::names::{fields_of, write_name, write_rule_name, write_status, write_word};
+use crate::names::{write_name, write_rule_name, write_status, write_word};
 use crate::sends::{write_free, write_lock, write_need, write_send, write_take};
 use hem_base::{Kind, Name, OutOfMemory, Reserved, Status8};
 use hem_output::Output;
@@ -44,10 +46,15 @@ fn write_rule(output: &mut Output, p: &Protocol, kind: Kind, rule: &Rule) -> Res
 }
 
 /// Appends the lines of a kind's rules.
-fn write_rules(output: &mut Output, p: &Protocol, kind: Kind) -> Result<(), OutOfMemory>
-    ensures { OnOk result (output.new ≡ output.old ++ lines_text (map (rule_line p.now (part p.now kind)) (part p.now kind).rules)) }
+fn write_rules(
+    output: &mut Output,
+    p: &Protocol,
+    kind: Kind,
+    rules: &[Rule],
+) -> Result<(), OutOfMemory>
+    ensures { OnOk result (output.new ≡ output.old ++ lines_text (map (rule_line p.now (part p.now kind)) rules.now)) }
 {
-    for rule in p.rules(kind) {
+    for rule in rules {
         write_rule(output, p, kind, rule)?;
     }
     Ok(())
@@ -70,11 +77,16 @@ fn write_field(
     output.end_line()
 }
 
-/// Appends the lines of a kind's fields.
-fn write_fields(output: &mut Output, p: &Protocol, kind: Kind) -> Result<(), OutOfMemory>
-    ensures { OnOk result (output.new ≡ output.old ++ lines_text (map (field_line p.now) (part p.now kind).fields)) }
+/// Appends the lines of a kind's fields, whose names can be declared.
+fn write_fields(
+    output: &mut Output,
+    p: &Protocol,
+    fields: &[(Name, Status8)],
+) -> Result<(), OutOfMemory>
+    requires { IsTrue (list_all is_declarable (map (λ f. f.0) fields.now)) }
+    ensures { OnOk result (output.new ≡ output.old ++ lines_text (map (field_line p.now) fields.now)) }
 {
-    for (name, start) in fields_of(p, kind) {
+    for (name, start) in fields {
         write_field(output, p, name, *start)?;
     }
     Ok(())
@@ -104,11 +116,12 @@ pub(crate) fn write_kind(
 ) -> Result<(), OutOfMemory>
     ensures { OnOk result (output.new ≡ output.old ++ lines_text (kind_lines p.now word (part p.now kind))) }
 {
+    let part = p.part(kind);
     output.word(Reserved::Kind)?;
     write_word(output, word)?;
     output.end_line()?;
-    write_fields(output, p, kind)?;
-    write_dir(output, p, p.part(kind).dir)?;
-    write_rules(output, p, kind)?;
+    write_fields(output, p, part.fields.as_slice())?;
+    write_dir(output, p, part.dir)?;
+    write_rules(output, p, kind, part.rules.as_slice())?;
     output.text("end\n")
 }

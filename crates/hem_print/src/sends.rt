@@ -4,10 +4,9 @@ ghost use Rattle.std.specs.Prelude.{◌≡◌, ◌∷◌, ◌++◌, OnOk};
 ghost use Rattle.hem_base.specs.declared.words.Reserved.TheVariants.{In, Send};
 ghost use Rattle.hem_print.specs.Canonical.{plain, words_text, set_words, take_words, need_words, free_words, lock_words, message_words, send_words};
 
-use crate::names::{
-    hold_word, origin_word, side_word, write_message, write_set, write_value, write_word,
-};
+use crate::names::{write_message, write_set, write_value, write_word};
 use hem_base::{MsgId, OutOfMemory, Reserved, StatusSet};
+use hem_grammar::{hold_word, origin_word, side_word};
 use hem_output::Output;
 use hem_syntax::{Need, Origin, Protocol, SendTo, Side, Take, Value};
 

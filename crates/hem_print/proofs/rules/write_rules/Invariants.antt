@@ -5,4 +5,4 @@ use Rattle.hem_print.proofs.rules.write_rules.Given as goal
 
 -- the text so far and the rules that are left make the whole text
 abbrev pub invariant-loop-rule : goal.invariant-loop-rule
-invariant-loop-rule l = l.output ++ lines_text (map (rule_line l.p (part l.p l.kind)) (drop l.rule-index (part l.p l.kind).rules)) ≡ l.fn.output ++ lines_text (map (rule_line l.p (part l.p l.kind)) (part l.p l.kind).rules)
+invariant-loop-rule l = l.output ++ lines_text (map (rule_line l.p (part l.p l.kind)) (drop l.rule-index l.rules)) ≡ l.fn.output ++ lines_text (map (rule_line l.p (part l.p l.kind)) l.rules)
