@@ -1,5 +1,5 @@
 -- What has been read around a rule, and what its names stand for.
-use Rattle.std.proofs.Common.{◌≡◌, ℕ, ◌<◌, ◌≤◌, true, false, ◌&&◌, List, ◌∷◌, map, length, refl, sym, ap, ◌∙◌, Option, nat_lt, ltb-true}
+use Rattle.std.proofs.Common.{◌≡◌, ℕ, ◌<◌, ◌≤◌, true, false, ◌&&◌, List, ◌∷◌, map, length, refl, sym, ap, ◌∙◌, Option, None, nat_lt, ltb-true}
 use Rattle.std.specs.Prelude.{unwrap_or}
 use Rattle.std.specs.List.{list_all}
 use Rattle.hem_base.specs.declared.ids.Status8.{Status8}
@@ -10,11 +10,15 @@ use Rattle.hem_base.specs.Words.{is_reserved, word_bytes}
 use Rattle.hem_syntax.specs.declared.rule.Rule.{Rule}
 use Rattle.hem_syntax.specs.Protocol.{Text, Protocol, KindPart}
 use Rattle.hem_syntax.specs.Lawful.{is_declarable, are_distinct}
-use Rattle.hem_grammar.specs.Draft.{Read, is_in, is_among, place_among}
+use Rattle.hem_grammar.specs.Draft.{Read, grammar, is_in, is_among, place_among}
+use Rattle.hem_text.specs.declared.symbol.Symbol.{Symbol}
+use Rattle.hem_text.specs.Grammars.{state, heads, can_pass}
 use Rattle.hem_text.specs.Spelling.{is_word}
+use Rattle.hem_grammar.specs.declared.terminals.Terminal.{Terminal}
+use Rattle.hem_grammar.specs.declared.terminals.Item.{Item}
 use Rattle.hem_print.specs.Canonical.{Word, plain, spelling, status_name, message_name, field_name}
 use Rattle.hem_print.proofs.Naming.{name_at, place_of_name, name_known, not_word, among_is, place_among_is, pair_name, length_names}
-use Rattle.hem_print.proofs.Steps.{lex}
+use Rattle.hem_print.proofs.Steps.{lex, go, picks, skip}
 use Rattle.hem_print.proofs.SetRuns.{status_in}
 
 -- what has been read beside the declarations, the fields and the rule that is being read
@@ -130,10 +134,7 @@ pub record GoesOn (from : ℕ) (ws : List Word) : Type 0 where
 
 pub part_reserved : (part : Part) → is_reserved (word_bytes (part_word part)) ≡ true
 part_reserved sets = refl
-part_reserved frees = refl
-part_reserved locks = refl
-part_reserved sends = refl
-part_reserved ends = refl
+part_reserved _ = refl
 
 pub past_set : (p : Protocol) (k : KindPart) (from : ℕ) (ws : List Word) → AreNamed p k → GoesOn from ws → IsPastSet p ws
 past_set p k from ws names on = record {
@@ -142,3 +143,11 @@ past_set p k from ws names on = record {
   is = on.is;
   stops = no_status_word p k (word_bytes (part_word on.part)) names (part_reserved on.part);
 }
+
+-- a symbol that may be left out, and that no part from here on begins
+pub pass_over : (e : Read) (x : Symbol Terminal Item) (rest : List (Symbol Terminal Item)) (from : ℕ) (tail : List Word) → GoesOn from tail → can_pass x ≡ true →
+    ((part : Part) → from ≤ order part → picks e (plain (part_word part)) (heads grammar x) ≡ None) → go (state e (x ∷ rest)) tail ≡ go (state e rest) tail
+pass_over e x rest from tail on passes none =
+    ap (λ ws. go (state e (x ∷ rest)) ws) on.is
+    ∙ skip e (plain (part_word on.part)) on.others x rest passes (none on.part on.late)
+    ∙ ap (λ ws. go (state e rest) ws) (sym on.is)

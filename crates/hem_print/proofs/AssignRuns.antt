@@ -1,5 +1,5 @@
 -- Sets of a rule read back.
-use Rattle.std.proofs.Common.{◌≡◌, ℕ, suc, ◌+◌, ◌≤◌, true, false, not, ◌==◌, List, [], ◌∷◌, ◌++◌, length, length-append, refl, sym, ap, ◌∙◌, arith, None, append_assoc, append-nil, nat_lt, lt-ltb}
+use Rattle.std.proofs.Common.{◌≡◌, ℕ, suc, ◌+◌, ◌≤◌, Bool, true, false, not, ◌==◌, List, [], ◌∷◌, ◌++◌, length, length-append, refl, sym, ap, ◌∙◌, arith, None, append_assoc, append-nil, nat_lt, lt-ltb}
 use Rattle.std.specs.List.{list_all, list_any}
 use Rattle.std.proofs.lemmas.List.Folds.{list_any-append}
 use Rattle.hem_base.specs.Words.{word_bytes}
@@ -24,10 +24,10 @@ use Rattle.hem_syntax.specs.Protocol.{Protocol, KindPart}
 use Rattle.hem_syntax.specs.Lawful.{counts_of, has_assign, set_once, write_alike}
 use Rattle.hem_grammar.specs.Draft.{assign_with, and_assign, first_status, set_last, sets_field, sets_val, sets_me, sets_targets}
 use Rattle.hem_print.specs.Canonical.{Word, plain, named, signed, assign_words, value_word, led, field_name, status_name}
-use Rattle.hem_print.proofs.Steps.{go, picks, pick, skip}
-use Rattle.hem_print.proofs.Naming.{and_left, and_right, not_true, not_false, or_left, or_right, or_both, cond_true, cond_false, last_snoc, set_last_snoc}
+use Rattle.hem_print.proofs.Steps.{go, picks, pick}
+use Rattle.hem_print.proofs.Naming.{and_left, and_right, room, room_after, not_true, not_false, or_left, or_right, or_both, cond_true, cond_false, last_snoc, set_last_snoc}
 use Rattle.hem_print.proofs.SetRuns.{status_in}
-use Rattle.hem_print.proofs.Around.{Around, env, AreNamed, GoesOn, Part, sets, frees, locks, sends, ends, part_word, order, field_known, field_is, status_known, status_is, no_field}
+use Rattle.hem_print.proofs.Around.{Around, env, AreNamed, GoesOn, Part, sets, frees, locks, sends, ends, part_word, order, pass_over, field_known, field_is, status_known, status_is, no_field}
 
 -- a value of a set
 value_run : (p : Protocol) (k : KindPart) (c : Around) (x : Rule) (rest : List (Symbol Terminal Item)) (v : Value) (tail : List Word) →
@@ -37,10 +37,7 @@ value_run p k c x rest v tail = go_over v ∙ ap (λ (y : List Assign). go (stat
     go_over : (v : Value) → go (state (env p k c (and_assign x (setting.Val value.Zero))) (Some_of item.AssignValue ∷ rest)) (value_word v ∷ tail)
         ≡ go (state (env p k c (record x { sets = set_last (x.sets ++ setting.Val value.Zero ∷ []) (setting.Val v) })) rest) tail
     go_over value.Val = refl
-    go_over value.Msg = refl
-    go_over value.Kept = refl
-    go_over value.Rs = refl
-    go_over value.Zero = refl
+    go_over _ = refl
 
 -- a status of a set
 set_status_run : (p : Protocol) (k : KindPart) (c : Around) (x : Rule) → AreNamed p k → (make : Status8 → Assign) → ((t u : Status8) → assign_with (make t) u ≡ make u) → (rest : List (Symbol Terminal Item)) (t : Status8) → nat_lt t.0 (length p.statuses) ≡ true → (tail : List Word) →
@@ -56,48 +53,40 @@ set_status_run p k c x names make says rest t has tail =
 pub record IsNew (xs : List Assign) (y : Assign) : Type 0 where
   pub apart : list_any (λ x. write_alike x y) xs ≡ false
 
+alike_each : (f : Assign → Bool) (y : Assign) → ((x : Assign) → write_alike x y ≡ false → f x ≡ false) → (xs : List Assign) → list_any (λ x. write_alike x y) xs ≡ false → list_any f xs ≡ false
+alike_each f y one [] h = refl
+alike_each f y one (x ∷ xs) h = or_both _ _ (one x (or_left _ _ h)) (alike_each f y one xs (or_right _ _ h))
+
 alike_field : (i : ℕ) (t : Status8) (xs : List Assign) → list_any (λ x. write_alike x (setting.Field i t)) xs ≡ false → list_any (sets_field i) xs ≡ false
-alike_field i t [] h = refl
-alike_field i t (x ∷ xs) h = or_both _ _ (one x (or_left _ _ h)) (alike_field i t xs (or_right _ _ h))
+alike_field i t xs h = alike_each (sets_field i) (setting.Field i t) one xs h
   where
     one : (x : Assign) → write_alike x (setting.Field i t) ≡ false → sets_field i x ≡ false
     one (setting.Field j u) h = swap_eq i j h
       where
         swap_eq : (i j : ℕ) → (j == i) ≡ false → (i == j) ≡ false
         swap_eq i j h = grind arith
-    one (setting.Val v) h = refl
-    one (setting.Me u) h = refl
-    one (setting.Targets u) h = refl
+    one _ h = refl
 
 alike_val : (v : Value) (xs : List Assign) → list_any (λ x. write_alike x (setting.Val v)) xs ≡ false → list_any sets_val xs ≡ false
-alike_val v [] h = refl
-alike_val v (x ∷ xs) h = or_both _ _ (one x (or_left _ _ h)) (alike_val v xs (or_right _ _ h))
+alike_val v xs h = alike_each sets_val (setting.Val v) one xs h
   where
     one : (x : Assign) → write_alike x (setting.Val v) ≡ false → sets_val x ≡ false
-    one (setting.Field j u) h = refl
-    one (setting.Val v) h = h
-    one (setting.Me u) h = refl
-    one (setting.Targets u) h = refl
+    one (setting.Val w) h = h
+    one _ h = refl
 
 alike_me : (t : Status8) (xs : List Assign) → list_any (λ x. write_alike x (setting.Me t)) xs ≡ false → list_any sets_me xs ≡ false
-alike_me t [] h = refl
-alike_me t (x ∷ xs) h = or_both _ _ (one x (or_left _ _ h)) (alike_me t xs (or_right _ _ h))
+alike_me t xs h = alike_each sets_me (setting.Me t) one xs h
   where
     one : (x : Assign) → write_alike x (setting.Me t) ≡ false → sets_me x ≡ false
-    one (setting.Field j u) h = refl
-    one (setting.Val v) h = refl
     one (setting.Me u) h = h
-    one (setting.Targets u) h = refl
+    one _ h = refl
 
 alike_targets : (t : Status8) (xs : List Assign) → list_any (λ x. write_alike x (setting.Targets t)) xs ≡ false → list_any sets_targets xs ≡ false
-alike_targets t [] h = refl
-alike_targets t (x ∷ xs) h = or_both _ _ (one x (or_left _ _ h)) (alike_targets t xs (or_right _ _ h))
+alike_targets t xs h = alike_each sets_targets (setting.Targets t) one xs h
   where
     one : (x : Assign) → write_alike x (setting.Targets t) ≡ false → sets_targets x ≡ false
-    one (setting.Field j u) h = refl
-    one (setting.Val v) h = refl
-    one (setting.Me u) h = refl
     one (setting.Targets u) h = h
+    one _ h = refl
 
 -- a set of a rule and what follows it
 assign_run : (p : Protocol) (k : KindPart) (c : Around) (x : Rule) → AreNamed p k → (rest : List (Symbol Terminal Item)) (y : Assign) → has_assign (counts_of p k) y ≡ true → nat_lt (length x.sets) 8 ≡ true → IsNew x.sets y → (tail : List Word) →
@@ -121,9 +110,6 @@ assign_run p k c x names rest (setting.Targets t) has few new tail =
     (not_false _ (alike_targets t x.sets new.apart)) few
     ∙ set_status_run p k c x names (λ u. setting.Targets u) (λ t u. refl) rest t has tail
 
-few_more : (n m : ℕ) → n + suc m ≤ 8 → nat_lt n 8 ≡ true
-few_more n m le = lt-ltb n 8 (omega arith)
-
 -- of sets of which each place is set once, each is new to those before it
 once_before : (done : List Assign) (y : Assign) (ys : List Assign) → set_once (done ++ y ∷ ys) ≡ true → IsNew done y
 once_before [] y ys once = record { apart = refl }
@@ -138,36 +124,22 @@ once_before (d ∷ ds) y ys once = record {
 more_assigns : (p : Protocol) (k : KindPart) (c : Around) → AreNamed p k → (rest : List (Symbol Terminal Item)) (tail : List Word) → GoesOn 2 tail → (x : Rule) (ys : List Assign) → list_all (has_assign (counts_of p k)) ys ≡ true → length x.sets + length ys ≤ 8 → set_once (x.sets ++ ys) ≡ true →
     go (state (env p k c x) (Many item.MoreAssigns ∷ rest)) (led (signed sign.Comma) (assign_words p k) ys ++ tail) ≡ go (state (env p k c (record x { sets = x.sets ++ ys })) rest) tail
 more_assigns p k c names rest tail on x [] has few once =
-    ap (λ ws. go (state (env p k c x) (Many item.MoreAssigns ∷ rest)) ws) on.is
-    ∙ skip (env p k c x) (plain (part_word on.part)) on.others (Many item.MoreAssigns) rest refl refl
-    ∙ ap (λ ws. go (state (env p k c x) rest) ws) (sym on.is)
+    pass_over (env p k c x) (Many item.MoreAssigns) rest 2 tail on refl (λ part late. refl)
     ∙ ap (λ (y : List Assign). go (state (env p k c (record x { sets = y })) rest) tail) (sym (append-nil x.sets))
 more_assigns p k c names rest tail on x (y ∷ ys) has few once =
     ap (λ ws. go (state (env p k c x) (Some_of item.Assign ∷ Many item.MoreAssigns ∷ rest)) ws) (append_assoc (assign_words p k y) (led (signed sign.Comma) (assign_words p k) ys) tail)
-    ∙ assign_run p k c x names (Many item.MoreAssigns ∷ rest) y (and_left (has_assign (counts_of p k) y) _ has) (few_more (length x.sets) (length ys) few) (once_before x.sets y ys once) (led (signed sign.Comma) (assign_words p k) ys ++ tail)
-    ∙ more_assigns p k c names rest tail on (and_assign x y) ys (and_right (has_assign (counts_of p k) y) _ has) (shifted x.sets ys few) (ap set_once (append_assoc x.sets (y ∷ []) ys) ∙ once)
+    ∙ assign_run p k c x names (Many item.MoreAssigns ∷ rest) y (and_left (has_assign (counts_of p k) y) _ has) (room 8 (length x.sets) (length ys) few) (once_before x.sets y ys once) (led (signed sign.Comma) (assign_words p k) ys ++ tail)
+    ∙ more_assigns p k c names rest tail on (and_assign x y) ys (and_right (has_assign (counts_of p k) y) _ has) (room_after 8 x.sets y (length ys) few) (ap set_once (append_assoc x.sets (y ∷ []) ys) ∙ once)
     ∙ ap (λ (z : List Assign). go (state (env p k c (record x { sets = z })) rest) tail) (append_assoc x.sets (y ∷ []) ys)
-  where
-    shifted : (gs ys : List Assign) → length gs + suc (length ys) ≤ 8 → length (gs ++ y ∷ []) + length ys ≤ 8
-    shifted gs ys le = omega (arith, length-append gs (y ∷ []))
 
 -- the sets of a rule and what follows them
 pub sets_run : (p : Protocol) (k : KindPart) (c : Around) → AreNamed p k → (rest : List (Symbol Terminal Item)) (tail : List Word) → GoesOn 2 tail → (x : Rule) (ys : List Assign) → list_all (has_assign (counts_of p k)) ys ≡ true → length x.sets + length ys ≤ 8 → set_once (x.sets ++ ys) ≡ true →
     go (state (env p k c x) (Maybe item.Set ∷ rest)) (led (plain word.Set) (assign_words p k) ys ++ tail) ≡ go (state (env p k c (record x { sets = x.sets ++ ys })) rest) tail
 sets_run p k c names rest tail on x [] has few once =
-    ap (λ ws. go (state (env p k c x) (Maybe item.Set ∷ rest)) ws) on.is
-    ∙ skip (env p k c x) (plain (part_word on.part)) on.others (Maybe item.Set) rest refl (no_set on.part on.late)
-    ∙ ap (λ ws. go (state (env p k c x) rest) ws) (sym on.is)
+    pass_over (env p k c x) (Maybe item.Set) rest 2 tail on refl no_set
     ∙ ap (λ (y : List Assign). go (state (env p k c (record x { sets = y })) rest) tail) (sym (append-nil x.sets))
   where
     no_set : (part : Part) → 2 ≤ order part → picks (env p k c x) (plain (part_word part)) (the.Assign assign.Set ∷ []) ≡ None
     no_set sets late = absurd (omega arith)
-    no_set frees late = refl
-    no_set locks late = refl
-    no_set sends late = refl
-    no_set ends late = refl
-sets_run p k c names rest tail on x (y ∷ ys) has few once =
-    ap (λ ws. go (state (env p k c x) (Some_of item.Assign ∷ Many item.MoreAssigns ∷ rest)) ws) (append_assoc (assign_words p k y) (led (signed sign.Comma) (assign_words p k) ys) tail)
-    ∙ assign_run p k c x names (Many item.MoreAssigns ∷ rest) y (and_left (has_assign (counts_of p k) y) _ has) (few_more (length x.sets) (length ys) few) (once_before x.sets y ys once) (led (signed sign.Comma) (assign_words p k) ys ++ tail)
-    ∙ more_assigns p k c names rest tail on (and_assign x y) ys (and_right (has_assign (counts_of p k) y) _ has) (omega (arith, length-append x.sets (y ∷ []))) (ap set_once (append_assoc x.sets (y ∷ []) ys) ∙ once)
-    ∙ ap (λ (z : List Assign). go (state (env p k c (record x { sets = z })) rest) tail) (append_assoc x.sets (y ∷ []) ys)
+    no_set _ late = refl
+sets_run p k c names rest tail on x (y ∷ ys) has few once = more_assigns p k c names rest tail on x (y ∷ ys) has few once

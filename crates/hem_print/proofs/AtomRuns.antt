@@ -23,10 +23,10 @@ use Rattle.hem_syntax.specs.Protocol.{Protocol, KindPart}
 use Rattle.hem_syntax.specs.Lawful.{counts_of, has_atom, has_set}
 use Rattle.hem_grammar.specs.Draft.{no_atom, atom_set, atom_with, and_atom, with_status, no_status, no_message, last_or, set_last}
 use Rattle.hem_print.specs.Canonical.{Word, plain, named, signed, atom_words, set_words, led, field_name, message_name}
-use Rattle.hem_print.proofs.Steps.{go, picks, pick, skip}
-use Rattle.hem_print.proofs.Naming.{and_left, and_right, cond_true, cond_false, last_snoc, set_last_snoc}
+use Rattle.hem_print.proofs.Steps.{go, picks, pick}
+use Rattle.hem_print.proofs.Naming.{and_left, and_right, room, room_after, cond_true, cond_false, last_snoc, set_last_snoc}
 use Rattle.hem_print.proofs.SetRuns.{Fills, status_in, set_run}
-use Rattle.hem_print.proofs.Around.{Around, env, AreNamed, IsPastSet, GoesOn, Part, sets, frees, locks, sends, ends, part_word, past_set, field_known, field_is, message_known, message_is, no_field}
+use Rattle.hem_print.proofs.Around.{Around, env, AreNamed, IsPastSet, GoesOn, Part, sets, frees, locks, sends, ends, part_word, past_set, pass_over, field_known, field_is, message_known, message_is, no_field}
 
 -- a kind of condition that has a set
 pub record HoldsSet (make : StatusSet → Atom) : Type 0 where
@@ -101,9 +101,6 @@ atom_run p k c x names rest (condition.Asked id) has few tail past =
     ∙ ap (λ (y : List Atom). go (state (env p k c (record x { guard = y })) rest) tail) (set_last_snoc x.guard (condition.Asked no_message) _)
     ∙ ap (λ (j : ℕ). go (state (env p k c (and_atom x (condition.Asked (record { 0 = j })))) rest) tail) (message_is p k id names has)
 
-few_more : (n m : ℕ) → n + suc m ≤ 16 → nat_lt n 16 ≡ true
-few_more n m le = lt-ltb n 16 (omega arith)
-
 -- after a condition comes a comma or what follows the guard
 past_atom : (p : Protocol) (k : KindPart) (from : ℕ) (tail : List Word) → AreNamed p k → GoesOn from tail → (ys : List Atom) → IsPastSet p (led (signed sign.Comma) (atom_words p k) ys ++ tail)
 past_atom p k from tail names on [] = past_set p k from tail names on
@@ -112,36 +109,22 @@ past_atom p k from tail names on (y ∷ ys) = record { word = signed sign.Comma;
 more_atoms : (p : Protocol) (k : KindPart) (c : Around) → AreNamed p k → (rest : List (Symbol Terminal Item)) (from : ℕ) (tail : List Word) → GoesOn from tail → (x : Rule) (ys : List Atom) → list_all (has_atom (counts_of p k)) ys ≡ true → length x.guard + length ys ≤ 16 →
     go (state (env p k c x) (Many item.MoreAtoms ∷ rest)) (led (signed sign.Comma) (atom_words p k) ys ++ tail) ≡ go (state (env p k c (record x { guard = x.guard ++ ys })) rest) tail
 more_atoms p k c names rest from tail on x [] has few =
-    ap (λ ws. go (state (env p k c x) (Many item.MoreAtoms ∷ rest)) ws) on.is
-    ∙ skip (env p k c x) (plain (part_word on.part)) on.others (Many item.MoreAtoms) rest refl refl
-    ∙ ap (λ ws. go (state (env p k c x) rest) ws) (sym on.is)
+    pass_over (env p k c x) (Many item.MoreAtoms) rest from tail on refl (λ part late. refl)
     ∙ ap (λ (y : List Atom). go (state (env p k c (record x { guard = y })) rest) tail) (sym (append-nil x.guard))
 more_atoms p k c names rest from tail on x (y ∷ ys) has few =
     ap (λ ws. go (state (env p k c x) (Some_of item.Atom ∷ Many item.MoreAtoms ∷ rest)) ws) (append_assoc (atom_words p k y) (led (signed sign.Comma) (atom_words p k) ys) tail)
-    ∙ atom_run p k c x names (Many item.MoreAtoms ∷ rest) y (and_left (has_atom (counts_of p k) y) _ has) (few_more (length x.guard) (length ys) few) (led (signed sign.Comma) (atom_words p k) ys ++ tail) (past_atom p k from tail names on ys)
-    ∙ more_atoms p k c names rest from tail on (and_atom x y) ys (and_right (has_atom (counts_of p k) y) _ has) (shifted x.guard ys few)
+    ∙ atom_run p k c x names (Many item.MoreAtoms ∷ rest) y (and_left (has_atom (counts_of p k) y) _ has) (room 16 (length x.guard) (length ys) few) (led (signed sign.Comma) (atom_words p k) ys ++ tail) (past_atom p k from tail names on ys)
+    ∙ more_atoms p k c names rest from tail on (and_atom x y) ys (and_right (has_atom (counts_of p k) y) _ has) (room_after 16 x.guard y (length ys) few)
     ∙ ap (λ (z : List Atom). go (state (env p k c (record x { guard = z })) rest) tail) (append_assoc x.guard (y ∷ []) ys)
-  where
-    shifted : (gs ys : List Atom) → length gs + suc (length ys) ≤ 16 → length (gs ++ y ∷ []) + length ys ≤ 16
-    shifted gs ys le = omega (arith, length-append gs (y ∷ []))
 
 -- the guard and what follows it
 pub guard_run : (p : Protocol) (k : KindPart) (c : Around) → AreNamed p k → (rest : List (Symbol Terminal Item)) (tail : List Word) → GoesOn 1 tail → (x : Rule) (ys : List Atom) → list_all (has_atom (counts_of p k)) ys ≡ true → length x.guard + length ys ≤ 16 →
     go (state (env p k c x) (Maybe item.When ∷ rest)) (led (plain word.When) (atom_words p k) ys ++ tail) ≡ go (state (env p k c (record x { guard = x.guard ++ ys })) rest) tail
 guard_run p k c names rest tail on x [] has few =
-    ap (λ ws. go (state (env p k c x) (Maybe item.When ∷ rest)) ws) on.is
-    ∙ skip (env p k c x) (plain (part_word on.part)) on.others (Maybe item.When) rest refl (no_when on.part)
-    ∙ ap (λ ws. go (state (env p k c x) rest) ws) (sym on.is)
+    pass_over (env p k c x) (Maybe item.When) rest 1 tail on refl (λ part late. no_when part)
     ∙ ap (λ (y : List Atom). go (state (env p k c (record x { guard = y })) rest) tail) (sym (append-nil x.guard))
   where
     no_when : (part : Part) → picks (env p k c x) (plain (part_word part)) (the.Atom atom.When ∷ []) ≡ None
     no_when sets = refl
-    no_when frees = refl
-    no_when locks = refl
-    no_when sends = refl
-    no_when ends = refl
-guard_run p k c names rest tail on x (y ∷ ys) has few =
-    ap (λ ws. go (state (env p k c x) (Some_of item.Atom ∷ Many item.MoreAtoms ∷ rest)) ws) (append_assoc (atom_words p k y) (led (signed sign.Comma) (atom_words p k) ys) tail)
-    ∙ atom_run p k c x names (Many item.MoreAtoms ∷ rest) y (and_left (has_atom (counts_of p k) y) _ has) (few_more (length x.guard) (length ys) few) (led (signed sign.Comma) (atom_words p k) ys ++ tail) (past_atom p k 1 tail names on ys)
-    ∙ more_atoms p k c names rest 1 tail on (and_atom x y) ys (and_right (has_atom (counts_of p k) y) _ has) (omega (arith, length-append x.guard (y ∷ [])))
-    ∙ ap (λ (z : List Atom). go (state (env p k c (record x { guard = z })) rest) tail) (append_assoc x.guard (y ∷ []) ys)
+    no_when _ = refl
+guard_run p k c names rest tail on x (y ∷ ys) has few = more_atoms p k c names rest 1 tail on x (y ∷ ys) has few

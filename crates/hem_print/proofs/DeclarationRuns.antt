@@ -2,6 +2,7 @@
 use Rattle.std.proofs.Common.{◌≡◌, ℕ, suc, ◌+◌, ◌<◌, ◌≤◌, Bool, true, false, ◌&&◌, ◌||◌, List, [], ◌∷◌, ◌++◌, map, length, length-append, refl, sym, ap, ◌∙◌, arith, None, append_assoc, append-nil, nat_lt, lt-ltb}
 use Rattle.std.specs.List.{list_all}
 use Rattle.std.specs.Str.{bytes_eq}
+use Rattle.std.proofs.lemmas.List.{map-append}
 use Rattle.std.proofs.lemmas.List.Folds.{list_any-append}
 use Rattle.hem_base.specs.declared.words.Reserved.{Reserved}
 use Rattle.hem_base.specs.declared.words.Reserved.TheVariants as word
@@ -21,17 +22,14 @@ use Rattle.hem_syntax.specs.Lawful.{is_declarable, are_distinct}
 use Rattle.hem_grammar.specs.Draft.{Read, nothing, is_in, is_among, set_last, class_word, with_class}
 use Rattle.hem_print.specs.Canonical.{Word, plain, named, message_line}
 use Rattle.hem_print.proofs.Steps.{go, picks, pick, skip}
-use Rattle.hem_print.proofs.Naming.{and_left, and_right, not_false, or_left, or_right, or_both, cond_true, among_is, last_snoc, set_last_snoc}
+use Rattle.hem_print.proofs.Naming.{and_left, and_right, both, room, room_after, not_false, or_left, or_right, or_both, cond_true, among_is, last_snoc, set_last_snoc}
 use Rattle.hem_print.proofs.RuleRuns.{words_of}
 use Rattle.hem_print.proofs.RulesRuns.{new_name}
-use Rattle.hem_print.proofs.KindRuns.{new_before, map-append}
+use Rattle.hem_print.proofs.KindRuns.{new_before}
 
 -- the name, these statuses and these messages are read
 abbrev pub declared : Text → List Text → List (Text × Class) → Read
 declared name ss ms = record nothing { name = name; statuses = ss; messages = ms }
-
-both : {a b : Bool} → a ≡ true → b ≡ true → (a && b) ≡ true
-both h k = rw (h, k) refl
 
 -- one of the first two statuses
 first_status_run : (name : Text) (rest : List (Symbol Terminal Item)) (done : List Text) (n : Text) → is_declarable n ≡ true → is_in done n ≡ false → nat_lt (length done) 4 ≡ true → (tail : List Word) →
@@ -53,15 +51,9 @@ more_statuses name rest after ws other done [] good apart few =
     skip (declared name done []) (plain after) ws (Many item.MoreStatuses) rest refl (other done)
     ∙ ap (λ (l : List Text). go (state (declared name l []) rest) (plain after ∷ ws)) (sym (append-nil done))
 more_statuses name rest after ws other done (n ∷ ns) good apart few =
-    more_status_run name rest done n (and_left (is_declarable n) _ good) (new_before done n ns apart) (lt-ltb (length done) 4 (room (length done) (length ns) few)) (map (λ n. named n) ns ++ plain after ∷ ws)
-    ∙ more_statuses name rest after ws other (done ++ n ∷ []) ns (and_right (is_declarable n) _ good) (ap are_distinct (append_assoc done (n ∷ []) ns) ∙ apart) (shifted done n ns few)
+    more_status_run name rest done n (and_left (is_declarable n) _ good) (new_before done n ns apart) (room 4 (length done) (length ns) few) (map (λ n. named n) ns ++ plain after ∷ ws)
+    ∙ more_statuses name rest after ws other (done ++ n ∷ []) ns (and_right (is_declarable n) _ good) (ap are_distinct (append_assoc done (n ∷ []) ns) ∙ apart) (room_after 4 done n (length ns) few)
     ∙ ap (λ (l : List Text). go (state (declared name l []) rest) (plain after ∷ ws)) (append_assoc done (n ∷ []) ns)
-  where
-    room : (n m : ℕ) → n + suc m ≤ 4 → n < 4
-    room n m le = omega arith
-
-    shifted : (done : List Text) (n : Text) (ns : List Text) → length done + suc (length ns) ≤ 4 → length (done ++ n ∷ []) + length ns ≤ 4
-    shifted done n ns le = omega (arith, length-append done (n ∷ []))
 
 -- a message
 message_run : (name : Text) (ss : List Text) (rest : List (Symbol Terminal Item)) (done : List (Text × Class)) (m : Text × Class) → is_declarable m.0 ≡ true → is_in ss m.0 ≡ false → is_among done m.0 ≡ false → nat_lt (length done) 64 ≡ true → (tail : List Word) →
@@ -77,11 +69,7 @@ message_run name ss rest done m good apart fresh few tail =
     classed : (c : Class) → go (state (declared name ss (done ++ (m.0, class.ExtReq) ∷ [])) (Some_of item.Classes ∷ Many item.Messages ∷ rest)) (plain (class_word c) ∷ tail)
         ≡ go (state (declared name ss (with_class (done ++ (m.0, class.ExtReq) ∷ []) c)) (Many item.Messages ∷ rest)) tail
     classed class.ExtReq = refl
-    classed class.ExtRsp = refl
-    classed class.UpReq = refl
-    classed class.UpRsp = refl
-    classed class.DownReq = refl
-    classed class.DownRsp = refl
+    classed _ = refl
 
 -- the messages, and the word after them
 messages_run : (name : Text) (ss : List Text) (rest : List (Symbol Terminal Item)) (ws : List Word) (done ms : List (Text × Class)) → list_all is_declarable (map (λ m. m.0) ms) ≡ true → are_distinct (ss ++ map (λ m. m.0) (done ++ ms)) ≡ true → length done + length ms ≤ 64 →
@@ -90,16 +78,10 @@ messages_run name ss rest ws done [] good apart few =
     skip (declared name ss done) (plain word.Kind) ws (Many item.Messages) rest refl refl
     ∙ ap (λ (l : List (Text × Class)). go (state (declared name ss l) rest) (plain word.Kind ∷ ws)) (sym (append-nil done))
 messages_run name ss rest ws done (m ∷ ms) good apart few =
-    message_run name ss rest done m (and_left (is_declarable m.0) _ good) (or_left _ _ (fresh apart)) (among_is done m.0 ∙ or_right (is_in ss m.0) _ (fresh apart)) (lt-ltb (length done) 64 (room (length done) (length ms) few)) (words_of (map message_line ms) ++ plain word.Kind ∷ ws)
-    ∙ messages_run name ss rest ws (done ++ m ∷ []) ms (and_right (is_declarable m.0) _ good) (ap (λ (l : List (Text × Class)). are_distinct (ss ++ map (λ x. x.0) l)) (append_assoc done (m ∷ []) ms) ∙ apart) (shifted done m ms few)
+    message_run name ss rest done m (and_left (is_declarable m.0) _ good) (or_left _ _ (fresh apart)) (among_is done m.0 ∙ or_right (is_in ss m.0) _ (fresh apart)) (room 64 (length done) (length ms) few) (words_of (map message_line ms) ++ plain word.Kind ∷ ws)
+    ∙ messages_run name ss rest ws (done ++ m ∷ []) ms (and_right (is_declarable m.0) _ good) (ap (λ (l : List (Text × Class)). are_distinct (ss ++ map (λ x. x.0) l)) (append_assoc done (m ∷ []) ms) ∙ apart) (room_after 64 done m (length ms) few)
     ∙ ap (λ (l : List (Text × Class)). go (state (declared name ss l) rest) (plain word.Kind ∷ ws)) (append_assoc done (m ∷ []) ms)
   where
-    room : (n m : ℕ) → n + suc m ≤ 64 → n < 64
-    room n m le = omega arith
-
-    shifted : (done : List (Text × Class)) (m : Text × Class) (ms : List (Text × Class)) → length done + suc (length ms) ≤ 64 → length (done ++ m ∷ []) + length ms ≤ 64
-    shifted done m ms le = omega (arith, length-append done (m ∷ []))
-
     fresh : are_distinct (ss ++ map (λ x. x.0) (done ++ m ∷ ms)) ≡ true → (is_in ss m.0 || is_in (map (λ x. x.0) done) m.0) ≡ false
     fresh apart =
         sym (list_any-append (λ n. bytes_eq n m.0) ss (map (λ x. x.0) done))

@@ -28,7 +28,7 @@ use Rattle.hem_syntax.specs.declared.rule.Rule.{Rule}
 use Rattle.hem_syntax.specs.Protocol.{Text, Protocol, KindPart}
 use Rattle.hem_syntax.specs.Lawful.{is_declarable, counts_of, has_take, has_atom, has_assign, has_send, has_set, is_rule, names_after, IsProtocol}
 use Rattle.hem_print.specs.Canonical.{Word, plain, named, signed, Line, line, status_name, message_name, field_name, rule_name, names_in, set_words, led, value_word, take_words, atom_words, assign_words, free_words, lock_words, message_words, send_words, rule_words, rule_line, field_line, dir_lines, end_line, kind_lines, message_line, declaration_lines, protocol_lines}
-use Rattle.hem_print.proofs.Naming.{and_left, and_right, name_at, pair_name, length_names}
+use Rattle.hem_print.proofs.Naming.{and_left, and_right, both, name_at, pair_name, length_names}
 use Rattle.hem_print.proofs.Around.{AreNamed}
 use Rattle.hem_print.proofs.RuleNames.{names_grow}
 use Rattle.hem_print.proofs.RuleRuns.{words_of, parts_of}
@@ -49,9 +49,6 @@ more w ws h rest = record { is = rw (h, rest.is) refl }
 
 joined : (xs ys : List Word) → AreGood xs → AreGood ys → AreGood (xs ++ ys)
 joined xs ys a b = record { is = list_all-append is_good xs ys ∙ both a.is b.is }
-  where
-    both : {a b : Bool} → a ≡ true → b ≡ true → (a && b) ≡ true
-    both h k = rw (h, k) refl
 
 lines_joined : (xs ys : List Line) → AreGood (words_of xs) → AreGood (words_of ys) → AreGood (words_of (xs ++ ys))
 lines_joined xs ys a b = record { is = ap (list_all is_good) (flat_map-append (λ l. l.first ∷ l.others) xs ys) ∙ (joined (words_of xs) (words_of ys) a b).is }

@@ -1,5 +1,5 @@
 -- Names that stand once in a list are found at their place.
-use Rattle.std.proofs.Common.{◌≡◌, ℕ, zero, suc, ◌+◌, ◌-◌, ◌<◌, Bool, true, false, cond, not, ◌&&◌, ◌||◌, List, [], ◌∷◌, ◌++◌, map, length, length-append, take, refl, ap, ◌∙◌, arith, Some, lt-ltb}
+use Rattle.std.proofs.Common.{◌≡◌, ℕ, zero, suc, ◌+◌, ◌-◌, ◌<◌, ◌≤◌, Bool, true, false, cond, not, ◌&&◌, ◌||◌, List, [], ◌∷◌, ◌++◌, map, length, length-append, take, refl, ap, ◌∙◌, arith, Some, nat_lt, lt-ltb}
 use Rattle.std.specs.Prelude.{slice_get, slice_set, position, unwrap_or}
 use Rattle.std.specs.List.{list_any, list_all, position_or_len}
 use Rattle.std.specs.Option.{option_map_or}
@@ -34,6 +34,9 @@ or_right false b h = h
 
 pub or_both : (a b : Bool) → a ≡ false → b ≡ false → (a || b) ≡ false
 or_both a b h k = rw (h, k) refl
+
+pub both : {a b : Bool} → a ≡ true → b ≡ true → (a && b) ≡ true
+both h k = rw (h, k) refl
 
 pub cond_true : {A : Type 0} (b : Bool) (x y : A) → b ≡ true → cond b x y ≡ x
 cond_true b x y h = rw h refl
@@ -93,6 +96,14 @@ last_snoc d xs x = rw (last_place xs x, get_last xs x) refl
 
 pub set_last_snoc : {A : Type 0} (xs : List A) (x y : A) → set_last (xs ++ x ∷ []) y ≡ xs ++ y ∷ []
 set_last_snoc xs x y = rw (last_place xs x) (put_last xs x y)
+
+-- room for one more, and for those after it
+
+pub room : (limit n m : ℕ) → n + suc m ≤ limit → nat_lt n limit ≡ true
+room limit n m le = lt-ltb n limit (omega arith)
+
+pub room_after : {A : Type 0} (limit : ℕ) (done : List A) (y : A) (m : ℕ) → length done + suc m ≤ limit → length (done ++ y ∷ []) + m ≤ limit
+room_after limit done y m le = omega (arith, length-append done (y ∷ []))
 
 -- the first place at which a test passes
 

@@ -19,7 +19,7 @@ use Rattle.hem_syntax.specs.Lawful.{is_declarable, are_distinct, counts_of, is_r
 use Rattle.hem_grammar.specs.Draft.{no_rule, is_short, with_rule_name, place_in}
 use Rattle.hem_print.specs.Canonical.{Word, plain, named, rule_words, rule_name, rule_line}
 use Rattle.hem_print.proofs.Steps.{go, pick, skip}
-use Rattle.hem_print.proofs.Naming.{and_left, and_right, not_false, cond_true, all_at, get_some, name_at}
+use Rattle.hem_print.proofs.Naming.{and_left, and_right, room, room_after, not_false, cond_true, all_at, get_some, name_at}
 use Rattle.hem_print.proofs.Around.{Around, env, AreNamed}
 use Rattle.hem_print.proofs.RuleNames.{NameStep, name_step, names_grow, named_before}
 use Rattle.hem_print.proofs.RuleRuns.{words_of, body, only_named, body_run, parts_of}
@@ -72,13 +72,7 @@ module _ (p : Protocol) (k : KindPart) (names : AreNamed p k) (rule_words_ok : l
       let c1 : Around = record c { names = take next p.rule_names } in
       let tail = words_of (map (rule_line p k) ys) ++ plain word.End ∷ ws in
       ap (λ v. go (state (env p k c no_rule) (Many item.Rules ∷ rest)) (plain word.Rule ∷ named (rule_name p y.name) ∷ v)) (append_assoc (rule_words p k y) (words_of (map (rule_line p k) ys)) (plain word.End ∷ ws))
-      ∙ head_run c m next is y (omega (arith, step.1.lower, names_grow next ys m' step.2)) step.1 (lt-ltb (length c.rules) 64 (room (length c.rules) (length ys) few)) (named_before c.rules y ys once) (rule_words p k y ++ tail)
+      ∙ head_run c m next is y (omega (arith, step.1.lower, names_grow next ys m' step.2)) step.1 (room 64 (length c.rules) (length ys) few) (named_before c.rules y ys once) (rule_words p k y ++ tail)
       ∙ body_run p k c1 names (Many item.Rules ∷ rest) y (parts_of p k y (and_left (is_rule (counts_of p k) y) _ good)) tail
-      ∙ rules_run ws (record c1 { rules = c.rules ++ y ∷ [] }) next refl ys (and_right (is_rule (counts_of p k) y) _ good) (ap named_once (append_assoc c.rules (y ∷ []) ys) ∙ once) (shifted c.rules y ys few) m' step.2 le
+      ∙ rules_run ws (record c1 { rules = c.rules ++ y ∷ [] }) next refl ys (and_right (is_rule (counts_of p k) y) _ good) (ap named_once (append_assoc c.rules (y ∷ []) ys) ∙ once) (room_after 64 c.rules y (length ys) few) m' step.2 le
       ∙ ap (λ (l : List Rule). go (state (env p k (record c { names = take m' p.rule_names; rules = l }) no_rule) rest) (plain word.End ∷ ws)) (append_assoc c.rules (y ∷ []) ys)
-    where
-      room : (n m : ℕ) → n + suc m ≤ 64 → n < 64
-      room n m le = omega arith
-
-      shifted : (done : List Rule) (y : Rule) (ys : List Rule) → length done + suc (length ys) ≤ 64 → length (done ++ y ∷ []) + length ys ≤ 64
-      shifted done y ys le = omega (arith, length-append done (y ∷ []))
