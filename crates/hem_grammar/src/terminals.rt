@@ -1,6 +1,6 @@
 //! The tokens and items of a protocol that is written out, by what they mean.
 
-use crate::rule::{Class, Hold, Origin, Side, Value};
+use hem_syntax::{Class, Hold, Origin, Side, Value};
 use hem_base::{Reserved, Sign};
 
 /// A token of a protocol.

@@ -27,7 +27,7 @@ fn value_sent(send: SendTo) -> Option<Value>
 
 /// Whether a rule of this row may name its requester.
 fn may_name_requester(row: &Row) -> bool
-    ensures { result ≡ may_name_requester row }
+    ensures { result ≡ may_name_requester row.now }
 {
     matches!(row.taking, Taking::FromRequester)
         || same_hold(row.up, Hold::Child)
@@ -67,7 +67,7 @@ fn is_leaf(kind: Kind) -> bool
 
 /// Whether the names of a condition may stand in a rule of this row.
 fn atom_fits(p: &Protocol, kind: Kind, row: &Row, atom: Atom) -> bool
-    ensures { result ≡ atom_fits p.now kind row atom }
+    ensures { result ≡ atom_fits p.now kind row.now atom }
 {
     match atom {
         Atom::Field(_, _) => true,
@@ -80,7 +80,7 @@ fn atom_fits(p: &Protocol, kind: Kind, row: &Row, atom: Atom) -> bool
 
 /// Whether a value may stand in a rule of this row.
 fn value_fits(row: &Row, value: Value) -> bool
-    ensures { result ≡ value_fits row value }
+    ensures { result ≡ value_fits row.now value }
 {
     match value {
         Value::Val | Value::Zero => true,
@@ -92,7 +92,7 @@ fn value_fits(row: &Row, value: Value) -> bool
 
 /// Whether the place of a set may stand in a rule of this row.
 fn set_fits(kind: Kind, row: &Row, set: Assign) -> bool
-    ensures { result ≡ set_fits kind row set }
+    ensures { result ≡ set_fits kind row.now set }
 {
     match set {
         Assign::Me(_) => may_name_requester(row) && !is_leaf(kind),
@@ -103,21 +103,21 @@ fn set_fits(kind: Kind, row: &Row, set: Assign) -> bool
 
 /// Whether the names of each condition may stand in a rule of this row.
 fn guard_fits(p: &Protocol, kind: Kind, row: &Row, guard: &[Atom]) -> bool
-    ensures { result ≡ list_all (atom_fits p.now kind row) guard.now }
+    ensures { result ≡ list_all (atom_fits p.now kind row.now) guard.now }
 {
     guard.iter().all(|atom| atom_fits(p, kind, row, *atom))
 }
 
 /// Whether the place of each set may stand in a rule of this row.
 fn places_fit(kind: Kind, row: &Row, sets: &[Assign]) -> bool
-    ensures { result ≡ list_all (set_fits kind row) sets.now }
+    ensures { result ≡ list_all (set_fits kind row.now) sets.now }
 {
     sets.iter().all(|set| set_fits(kind, row, *set))
 }
 
 /// Whether the value that is set, if one is, may stand in a rule of this row.
 fn set_value_fits(row: &Row, set: Assign) -> bool
-    ensures { result ≡ set_value_fits row set }
+    ensures { result ≡ set_value_fits row.now set }
 {
     match set {
         Assign::Val(value) => value_fits(row, value),
@@ -127,14 +127,14 @@ fn set_value_fits(row: &Row, set: Assign) -> bool
 
 /// Whether each value that is set may stand in a rule of this row.
 fn set_values_fit(row: &Row, sets: &[Assign]) -> bool
-    ensures { result ≡ list_all (set_value_fits row) sets.now }
+    ensures { result ≡ list_all (set_value_fits row.now) sets.now }
 {
     sets.iter().all(|set| set_value_fits(row, *set))
 }
 
 /// Whether the value that is sent, if one is, may stand in a rule of this row.
 fn sent_value_fits(row: &Row, send: SendTo) -> bool
-    ensures { result ≡ option_map_or (value_fits row) (value_sent send) true }
+    ensures { result ≡ option_map_or (value_fits row.now) (value_sent send) true }
 {
     match value_sent(send) {
         Some(value) => value_fits(row, value),
@@ -144,14 +144,14 @@ fn sent_value_fits(row: &Row, send: SendTo) -> bool
 
 /// Whether each value that a rule sets or sends may stand in a rule of this row.
 fn values_fit(rule: &Rule, row: &Row) -> bool
-    ensures { result ≡ list_all (value_fits row) (values_of rule.now) }
+    ensures { result ≡ list_all (value_fits row.now) (values_of rule.now) }
 {
     set_values_fit(row, rule.sets.as_slice()) && sent_value_fits(row, rule.send)
 }
 
 /// Whether each name stands where it may.
 pub(crate) fn names_fit(p: &Protocol, kind: Kind, rule: &Rule, row: &Row) -> bool
-    ensures { result ≡ names_fit p.now kind rule.now row }
+    ensures { result ≡ names_fit p.now kind rule.now row.now }
 {
     guard_fits(p, kind, row, rule.guard.as_slice())
         && places_fit(kind, row, rule.sets.as_slice())

@@ -24,14 +24,14 @@ pub(crate) fn same_hold(a: Hold, b: Hold) -> bool
 
 /// Whether the rule needs the locks as its template does.
 pub(crate) fn locks_fit(rule: &Rule, row: &Row) -> bool
-    ensures { result ≡ locks_fit rule.now row }
+    ensures { result ≡ locks_fit rule.now row.now }
 {
     same_hold(rule.need.up, row.up) && same_hold(rule.need.down, row.down)
 }
 
 /// Whether a rule whose template sets nothing sets nothing.
 pub(crate) fn silent_fits(rule: &Rule, row: &Row) -> bool
-    ensures { result ≡ silent_fits rule.now row }
+    ensures { result ≡ silent_fits rule.now row.now }
 {
     row.may_set || rule.sets.len() == 0
 }

@@ -81,7 +81,7 @@ fn locks_alike(a: Option<(Side, Origin)>, b: Option<(Side, Origin)>) -> bool
 
 /// Whether a rule takes, locks and sends as a row does.
 fn has_shape(p: &Protocol, rule: &Rule, row: &Row) -> bool
-    ensures { result ≡ has_shape p.now rule.now row }
+    ensures { result ≡ has_shape p.now rule.now row.now }
 {
     is_taking(p, rule.take, row.taking)
         && frees_alike(rule.free, row.frees)
