@@ -58,7 +58,7 @@ request-there : (p : Protocol) (tree : Tree) (f : Firing) (now : Local) (request
 request-there p tree f now requests waiting e o fires t =
     let parts = both e.outs.taken_request (is_none f.me) (both (e.outs.taken_request && is_none f.me) (o == f.object.0) t).0 in
     let same = unnamed f.me parts.1 in
-    (subst HasMessage same ((takes-there p tree f now (heads_from tree requests waiting f.object.0 f.me) e fires).me parts.0), same)
+    (subst HasMessage same ((takes-there p tree f now (heads_from tree requests waiting f.object.0 f.me) e fires).request parts.0), same)
   where
     unnamed : (me : Option ObjectId) → is_none me ≡ true → first_request requests waiting me ≡ slice_get requests 0
     unnamed None is = refl
