@@ -31,11 +31,11 @@ use Rattle.hem_fire.specs.View.{kid_asker}
 use Rattle.hem_tree.specs.Tree.{Tree, IsLawful}
 use Rattle.hem_tree.proofs.Early.{lawful_early}
 use Rattle.hem_system.specs.State.{Line, Effect, effect_of, line_after, place_of_me}
-use Rattle.hem_locks.specs.Rows.{IsTaking}
-use Rattle.hem_locks.specs.Acts.{IsNeeded, IsTaken, IsSent, requester_of}
-use Rattle.hem_locks.specs.Acted.{AllHaveTemplates, IsActed}
+use Rattle.hem_rows.specs.Rows.{IsTaking, AllHaveTemplates}
+use Rattle.hem_rows.specs.Acts.{IsNeeded, IsTaken, IsSent, requester_of}
+use Rattle.hem_locks.specs.Acted.{IsActed}
 use Rattle.hem_locks.specs.Edges.{held}
-use Rattle.hem_locks.proofs.Rows.{of_row}
+use Rattle.hem_rows.proofs.Rows.{of_row}
 use Rattle.hem_locks.proofs.Acted.{acted}
 use Rattle.hem_locks.proofs.Places.{within}
 use Rattle.hem_locks.proofs.Laws.{has_template}

@@ -16,10 +16,10 @@ use Rattle.hem_tree.specs.Tree.{Tree, is_child}
 use Rattle.hem_system.specs.declared.lane.Lane.{Lane}
 use Rattle.hem_system.specs.declared.lane.Lane.TheVariants.{UpRequests, Down}
 use Rattle.hem_system.specs.State.{Cell, Line, Effect, list_of, head_at, heads_of, local_at, takes, reaches, cell_after, line_after}
-use Rattle.hem_locks.specs.Acts.{IsThere, takes_parent, AreHeads}
+use Rattle.hem_rows.specs.Acts.{IsThere, takes_parent, AreHeads}
 use Rattle.hem_locks.specs.Acted.{IsActed}
 use Rattle.hem_locks.specs.Edges.{one_if}
-use Rattle.hem_locks.proofs.Choices.{both}
+use Rattle.hem_rows.proofs.Choices.{both}
 use Rattle.hem_locks.proofs.Counts.{changed, length-changed}
 use Rattle.hem_locks.proofs.Places.{named_head}
 use Rattle.hem_locks.proofs.Lines.{get_map_each, head_of, me_there}

@@ -22,12 +22,13 @@ use Rattle.hem_system.specs.declared.lane.Lane.TheVariants.{UpRequests, UpRespon
 use Rattle.hem_system.specs.State.{Cell, Line, Effect, effect_of, takes, is_own_child}
 use Rattle.hem_system.proofs.Changed.{is_same}
 use Rattle.hem_system.proofs.Kids.{at_child}
-use Rattle.hem_locks.specs.Acts.{IsNeeded, takes_me, takes_parent, takes_kids}
+use Rattle.hem_rows.specs.Acts.{IsNeeded, takes_me, takes_parent, takes_kids}
 use Rattle.hem_locks.specs.Edges.{LocksHold}
-use Rattle.hem_locks.proofs.Choices.{if_mapped}
+use Rattle.hem_rows.proofs.Choices.{if_mapped}
 use Rattle.hem_locks.proofs.Still.{there}
-use Rattle.hem_locks.specs.Acted.{AllHaveTemplates, IsActed}
-use Rattle.hem_locks.proofs.Bits.{no_bit}
+use Rattle.hem_rows.specs.Rows.{AllHaveTemplates}
+use Rattle.hem_locks.specs.Acted.{IsActed}
+use Rattle.hem_rows.proofs.Bits.{no_bit}
 use Rattle.hem_locks.proofs.Acted.{acted}
 use Rattle.hem_bound.specs.Starts.{is_start, TakesMessage}
 use Rattle.hem_bound.proofs.ByTemplate.{starts_by}

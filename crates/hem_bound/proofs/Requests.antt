@@ -16,13 +16,13 @@ use Rattle.hem_tree.specs.Tree.{Tree}
 use Rattle.hem_system.specs.declared.lane.Lane.TheVariants.{Requests}
 use Rattle.hem_system.specs.State.{Cell, Line, State, Effect, head_at, request_head, heads_of, takes, reaches, cell_after, line_after, fire, run}
 use Rattle.hem_system.proofs.Changed.{is_same}
-use Rattle.hem_locks.specs.Rows.{IsTaking}
-use Rattle.hem_locks.specs.Acts.{IsThere, takes_me}
-use Rattle.hem_locks.specs.Acted.{AllHaveTemplates, IsActed}
+use Rattle.hem_rows.specs.Rows.{IsTaking, AllHaveTemplates}
+use Rattle.hem_rows.specs.Acts.{IsThere, takes_me}
+use Rattle.hem_locks.specs.Acted.{IsActed}
 use Rattle.hem_locks.specs.Edges.{one_if}
-use Rattle.hem_locks.proofs.Choices.{both, is_nothing, if_some}
+use Rattle.hem_rows.proofs.Choices.{both, is_nothing, if_some}
 use Rattle.hem_locks.proofs.Counts.{length-changed}
-use Rattle.hem_locks.proofs.Rows.{of_row}
+use Rattle.hem_rows.proofs.Rows.{of_row}
 use Rattle.hem_locks.proofs.Places.{within}
 use Rattle.hem_locks.proofs.Acted.{acted}
 use Rattle.hem_locks.proofs.Lines.{get_map_each, head_of, me_there}

@@ -24,8 +24,8 @@ use Rattle.hem_tree.specs.Tree.{Tree, IsLawful, parent_of, is_child, place_among
 use Rattle.hem_system.specs.declared.lane.Lane.TheVariants.{UpRequests, Down}
 use Rattle.hem_system.specs.State.{Effect, takes, reaches, is_own_child}
 use Rattle.hem_system.proofs.Takers.{parent_is}
-use Rattle.hem_locks.specs.Acts.{takes_me, takes_parent, IsSent}
-use Rattle.hem_locks.proofs.Choices.{if_some}
+use Rattle.hem_rows.specs.Acts.{takes_me, takes_parent, IsSent}
+use Rattle.hem_rows.proofs.Choices.{if_some}
 use Rattle.hem_locks.proofs.Sums.{reaches_kid, is_up_request, to_requester-up}
 use Rattle.hem_bound.specs.Sums.{total}
 use Rattle.hem_bound.specs.Sizes.{size_of, sizes_where}

@@ -14,7 +14,7 @@ use Rattle.hem_fire.specs.declared.outs.To.{To}
 use Rattle.hem_fire.specs.declared.outs.To.TheVariants as to
 use Rattle.hem_tree.specs.Tree.{Tree}
 use Rattle.hem_system.specs.State.{Line, Effect, local_at, place_of_me, line_after}
-use Rattle.hem_locks.specs.Acts.{requester_of}
+use Rattle.hem_rows.specs.Acts.{requester_of}
 use Rattle.hem_locks.specs.Allowed.{HasTemplate}
 use Rattle.hem_bound.specs.Sizes.{size_of, sizes_where}
 use Rattle.hem_bound.specs.Potential.{up_weight, kid_size, potential}

@@ -8,8 +8,8 @@ use Rattle.hem_base.specs.declared.ids.RuleId.{RuleId}
 use Rattle.hem_syntax.specs.declared.rule.Rule.{Rule}
 use Rattle.hem_syntax.specs.Protocol.{Protocol, part, rule_named}
 use Rattle.hem_template.specs.Template.{template_of}
-use Rattle.hem_trace.specs.Order.{is_upward_template}
-use Rattle.hem_law.specs.Stable.{IsStable, Breach, first_unstable}
+use Rattle.hem_template.specs.Waiting.{is_upward_template}
+use Rattle.hem_abstract.specs.Stable.{IsStable, Breach, first_unstable}
 
 -- the test of one rule
 abbrev pub is_sound : Protocol → Kind → Rule → Bool

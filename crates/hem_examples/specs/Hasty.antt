@@ -12,8 +12,8 @@ use Rattle.hem_examples.specs.Msi.{msi}
 use Rattle.hem_examples.specs.Templates.{leaf_templates}
 use Rattle.hem_examples.specs.Unstable.{late_evict}
 use Rattle.hem_examples.specs.OvertakenEviction.{overtaken_eviction as x}
-use Rattle.hem_law.specs.Stable.{IsStable}
-use Rattle.hem_locks.specs.Acted.{AllHaveTemplates}
+use Rattle.hem_abstract.specs.Stable.{IsStable}
+use Rattle.hem_rows.specs.Rows.{AllHaveTemplates}
 
 abbrev pub hasty : Protocol
 hasty = record msi { leaf = record { fields = msi.leaf.fields; dir = None; rules = ld_hit_rule ∷ st_hit_rule ∷ ld_miss_rule ∷ st_miss_rule ∷ ld_resp_rule ∷ st_resp_rule ∷ late_evict ∷ evict_ack_rule ∷ inv_rule ∷ downgrade_rule ∷ [] } }

@@ -26,16 +26,19 @@ use Rattle.hem_trace.specs.Blocks.{Each}
 use Rattle.hem_trace.specs.Order.{Entry}
 use Rattle.hem_law.specs.Chains.{heads_seen, ChainStep, IsChain}
 use Rattle.hem_law.specs.Printed.{event_of}
-use Rattle.hem_law.specs.Windows.{if_template, template_at, AreWholeBlocks}
-use Rattle.hem_law.specs.Abstract.{guard_at, abstract_of, AreSmall}
-use Rattle.hem_law.specs.Partners.{Partner, alone, pair, breaks, IsPartner}
+use Rattle.hem_template.specs.Waiting.{template_if}
+use Rattle.hem_trace.specs.Templates.{template_at}
+use Rattle.hem_law.specs.Windows.{AreWholeBlocks}
+use Rattle.hem_abstract.specs.Abstract.{guard_at, abstract_of, AreSmall}
+use Rattle.hem_abstract.specs.Partners.{Partner, alone, pair, breaks, IsPartner}
 use Rattle.hem_law.proofs.OwnEffect.{own_effect-parts}
-use Rattle.hem_law.proofs.TemplateRows.{IsOfRow, of-row}
-use Rattle.hem_law.proofs.OneRule.{Does}
-use Rattle.hem_law.proofs.DownwardFrames.{imm_up, rs_up_up}
-use Rattle.hem_law.proofs.TemplateForms.{is-imm_up, is-rs_up_up}
+use Rattle.hem_rows.specs.Rows.{IsOfRow}
+use Rattle.hem_rows.proofs.Rows.{of_row}
+use Rattle.hem_abstract.proofs.OneRule.{Does}
+use Rattle.hem_abstract.proofs.DownwardFrames.{imm_up, rs_up_up}
+use Rattle.hem_abstract.proofs.TemplateForms.{is-imm_up, is-rs_up_up}
 use Rattle.hem_law.proofs.Pending.{does-from}
-use Rattle.hem_law.proofs.PartnersKeep.{StillStands, alone-keeps, pair-keeps}
+use Rattle.hem_abstract.proofs.PartnersKeep.{StillStands, alone-keeps, pair-keeps}
 
 -- the sets leave the downlock
 turns-down : (change : Assign → Local → Local) (sets : List Assign) (local : Local) → ((a : Assign) (l : Local) → (change a l).down ≡ l.down) → (in_turn change sets local).down ≡ local.down
@@ -86,7 +89,7 @@ record IsMade (p : Protocol) (tree : Tree) (kind : Kind) (local : Local) (e : Ev
   template : template_of p kind rule ≡ Ok t
   does : Does p kind rule (place_of_me tree e.firing.object.0 e.firing.me) local (heads_seen tree e) next e.outs
 
-pub if-template : (r : Result TemplateName Clause) (t : TemplateName) → if_template r ≡ Some t → r ≡ Ok t
+pub if-template : (r : Result TemplateName Clause) (t : TemplateName) → template_if r ≡ Some t → r ≡ Ok t
 if-template (Ok u) t is = let same : u ≡ t = cc in ap Ok same
 if-template (Err c) t is = cc
 
@@ -97,7 +100,7 @@ made-of p tree kind local e next t there template step =
     let does = (does-from p tree e.firing step.now (heads_seen tree e) (record { after = next; took = e.took; outs = e.outs }) parts).0 in
     let kind_is : parts.kind ≡ kind = (let both : Some parts.kind ≡ Some kind = sym parts.there ∙ there in cc) in
     let named : rule_named p kind e.firing.rule ≡ Some parts.rule = subst (λ k. rule_named p k e.firing.rule ≡ Some parts.rule) kind_is parts.named in
-    let found : if_template (template_of p kind parts.rule) ≡ Some t = sym (ap (option_and_then (λ kind. option_and_then (λ rule. if_template (template_of p kind rule)) (rule_named p kind e.firing.rule))) there ∙ ap (option_and_then (λ rule. if_template (template_of p kind rule))) named) ∙ template in
+    let found : template_if (template_of p kind parts.rule) ≡ Some t = sym (ap (option_and_then (λ kind. option_and_then (λ rule. template_if (template_of p kind rule)) (rule_named p kind e.firing.rule))) there ∙ ap (option_and_then (λ rule. template_if (template_of p kind rule))) named) ∙ template in
     record {
       rule = parts.rule;
       named = named;
@@ -123,14 +126,14 @@ blocks-stand p tree kind u Fits steady [] local end kinds blocks chain fits guar
     (record { guard = subst (λ l. guard_at u.guard (abstract_of l) None ≡ true) same guarded; value = λ sends. ap (λ (l : Local). l.val) (sym same) }, ap (λ (l : Local). l.down) (sym same) ∙ free)
 blocks-stand p tree kind u Fits steady (x ∷ []) local end kinds blocks chain fits guarded free =
     let made = made-of p tree kind local x.event chain.0 ImmUp kinds.0 blocks chain.1 in
-    let of = of-row p kind made.rule ImmUp made.template in
+    let of = of_row p kind made.rule ImmUp made.template in
     let stands = alone-keeps p kind u made.rule (place_of_me tree x.event.firing.object.0 x.event.firing.me) local (heads_seen tree x.event) chain.0 x.event.outs of (steady.once x.event.firing.rule made.rule made.named) (steady.small local fits) made.does guarded (steady.whole (alone made.rule) local (x.event.firing.rule, made.named, made.template) fits) in
     let down = imm_up-down p kind made.rule (place_of_me tree x.event.firing.object.0 x.event.firing.me) local (heads_seen tree x.event) chain.0 x.event.outs of made.does in
     let same : chain.0 ≡ end = (let last : Some chain.0 ≡ Some end = chain.2 in cc) in
     (subst (StillStands u local) same stands, ap (λ (l : Local). l.down) (sym same) ∙ down ∙ free)
 blocks-stand p tree kind u Fits steady (x ∷ y ∷ xs) local end kinds (inl it) chain fits guarded free =
     let made = made-of p tree kind local x.event chain.0 ImmUp kinds.0 it.0 chain.1 in
-    let of = of-row p kind made.rule ImmUp made.template in
+    let of = of_row p kind made.rule ImmUp made.template in
     let stands = alone-keeps p kind u made.rule (place_of_me tree x.event.firing.object.0 x.event.firing.me) local (heads_seen tree x.event) chain.0 x.event.outs of (steady.once x.event.firing.rule made.rule made.named) (steady.small local fits) made.does guarded (steady.whole (alone made.rule) local (x.event.firing.rule, made.named, made.template) fits) in
     let down = imm_up-down p kind made.rule (place_of_me tree x.event.firing.object.0 x.event.firing.me) local (heads_seen tree x.event) chain.0 x.event.outs of made.does in
     let rest = blocks-stand p tree kind u Fits steady (y ∷ xs) chain.0 end kinds.1 it.1 chain.2 (steady.closed local chain.0 x.event kinds.0 chain.1 fits) stands.guard (down ∙ free) in
@@ -140,8 +143,8 @@ blocks-stand p tree kind u Fits steady (x ∷ y ∷ xs) local end kinds (inr it)
     let next = chain.2.0 in
     let first = made-of p tree kind local x.event mid RqDownDown kinds.0 it.0 chain.1 in
     let second = made-of p tree kind mid y.event next RsUpUp kinds.1.0 it.1 chain.2.1 in
-    let of_q = of-row p kind first.rule RqDownDown first.template in
-    let of_r = of-row p kind second.rule RsUpUp second.template in
+    let of_q = of_row p kind first.rule RqDownDown first.template in
+    let of_r = of_row p kind second.rule RsUpUp second.template in
     let stands = pair-keeps p kind u first.rule second.rule (place_of_me tree x.event.firing.object.0 x.event.firing.me) (place_of_me tree y.event.firing.object.0 y.event.firing.me) local (heads_seen tree x.event) (heads_seen tree y.event) mid next x.event.outs y.event.outs of_q of_r (steady.once y.event.firing.rule second.rule second.named) (steady.small local fits) first.does second.does guarded
     (steady.whole (pair first.rule second.rule) local (x.event.firing.rule, y.event.firing.rule, first.named, second.named, first.template, second.template) fits) in
     let down = rs_up_up-down p kind second.rule (place_of_me tree y.event.firing.object.0 y.event.firing.me) mid (heads_seen tree y.event) next y.event.outs of_r second.does in

@@ -20,7 +20,7 @@ use Rattle.hem_system.specs.State.{State, Line, LineStep, Effect, own_effect, ef
 use Rattle.hem_trace.specs.History.{Event, Channel, channels_taken, takes_from, sends_to, events}
 use Rattle.hem_trace.specs.Blocks.{Each}
 use Rattle.hem_law.specs.Flows.{IsFlow, IsFed, sent_on}
-use Rattle.hem_law.proofs.Inverted.{chosen, if_some, if_mapped}
+use Rattle.hem_rows.proofs.Choices.{chosen, if_some, if_mapped}
 use Rattle.hem_law.proofs.OwnEffect.{own_effect-parts}
 use Rattle.hem_law.proofs.Fed.{cond_length}
 use Rattle.hem_law.proofs.AllLines.{made-on}

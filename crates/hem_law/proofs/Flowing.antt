@@ -16,7 +16,7 @@ use Rattle.hem_law.specs.Chains.{own_events, firings, heads_seen, IsChain}
 use Rattle.hem_law.specs.Flows.{IsFlow, taken_on, sent_on, all_taken, all_sent, IsFed}
 use Rattle.hem_law.specs.Leads.{Leads, Fits}
 use Rattle.hem_system.proofs.Takers.{taker_is, sender_is}
-use Rattle.hem_law.proofs.Inverted.{both}
+use Rattle.hem_rows.proofs.Choices.{both}
 use Rattle.hem_law.proofs.Taken.{HasMessage, TakesThere, takes-there, kid-at}
 use Rattle.hem_law.proofs.LawRun.{effect_in, own-first, law-run, law-events}
 

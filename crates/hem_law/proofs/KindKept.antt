@@ -27,12 +27,12 @@ use Rattle.hem_system.specs.State.{place_of_me}
 use Rattle.hem_trace.specs.History.{Event}
 use Rattle.hem_trace.specs.Blocks.{Each}
 use Rattle.hem_law.specs.Chains.{heads_seen, ChainStep}
-use Rattle.hem_law.specs.Stable.{IsOfKind}
-use Rattle.hem_law.proofs.Inverted.{both}
+use Rattle.hem_abstract.specs.Stable.{IsOfKind}
+use Rattle.hem_rows.proofs.Choices.{both}
 use Rattle.hem_law.proofs.OwnEffect.{own_effect-parts}
 use Rattle.hem_law.proofs.Pending.{does-from}
 use Rattle.hem_law.proofs.DirLength.{local_after-length}
-use Rattle.hem_law.proofs.StableNever.{Among, find-among}
+use Rattle.hem_abstract.proofs.StableNever.{Among, find-among}
 
 -- a rule of a kind is one that a protocol may have
 part-is : (p : Protocol) (kind : Kind) → IsProtocol p → IsPart p (part p kind)

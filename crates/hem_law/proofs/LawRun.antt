@@ -15,7 +15,8 @@ use Rattle.hem_law.specs.Leads.{Leads}
 use Rattle.hem_system.proofs.TakenHeads.{own_effect-enough}
 use Rattle.hem_law.proofs.OwnEffect.{own_effect-parts, own_effect-took}
 use Rattle.hem_law.proofs.Children.{heads-met}
-use Rattle.hem_law.proofs.LineParts.{length-map_each, list_at-after, local_at-after, line_same, not_same}
+use Rattle.hem_law.proofs.LineParts.{length-map_each, list_at-after, local_at-after, line_same}
+use Rattle.hem_rows.proofs.Choices.{not_same}
 
 -- what an event does
 abbrev pub effect_in : Event → Local → Effect

@@ -12,6 +12,7 @@ use Rattle.hem_system.specs.declared.lane.Lane.TheVariants.{UpRequests, UpRespon
 use Rattle.hem_tree.specs.Tree.{Tree, is_child}
 use Rattle.hem_object.specs.Local.{Local}
 use Rattle.hem_system.specs.State.{Cell, Line, Effect, map_each, list_of, list_at, list_after, cell_after, line_after, local_at, takes, reaches}
+use Rattle.hem_rows.proofs.Choices.{not_same}
 
 pub slice_get-map_each : {A B : Type 0} (f : ℕ → A → B) (i k : ℕ) (xs : List A) → slice_get (map_each f i xs) k ≡ option_map (f (i + k)) (slice_get xs k)
 slice_get-map_each f i k [] = refl
@@ -42,10 +43,6 @@ no_child_outside tree line k o size none =
     let past : length tree ≤ k = omega (arith, none_past line k none) in
     let gone = slice_get_past tree k past in
     rw gone refl
-
--- a number that is not another
-pub not_same : (k o : ℕ) → k ≢ o → (k == o) ≡ false
-not_same k o differ = grind arith
 
 -- a firing at another object sends nothing to an object that is no child of it
 no_send : (tree : Tree) (f : Firing) (t : To) (k : ℕ) (lane : Lane) → (k == f.object.0) ≡ false → is_child tree k f.object.0 ≡ false → reaches tree f t k lane ≡ false

@@ -17,7 +17,7 @@ use Rattle.hem_trace.specs.Blocks.{Each}
 use Rattle.hem_trace.specs.Order.{entries_of}
 use Rattle.hem_law.specs.Normal.{AreNumbered, TakesOneNumber, TakeOneNumber}
 use Rattle.hem_law.specs.Printed.{IsFresh}
-use Rattle.hem_law.proofs.Inverted.{both}
+use Rattle.hem_rows.proofs.Choices.{both}
 use Rattle.hem_law.proofs.EventFacts.{IsFedOn}
 use Rattle.hem_law.proofs.TakenChannels.{NamesOwnChild, run-own, channels-taken}
 use Rattle.hem_law.proofs.Transactions.{numbered, number-taken, tags-length, run-fed}

@@ -8,7 +8,7 @@ use Rattle.hem_object.specs.Local.{Local}
 use Rattle.hem_tree.specs.Tree.{Tree, kind_of}
 use Rattle.hem_fire.specs.OneFire.{Heads, can_fire}
 use Rattle.hem_system.specs.State.{Effect, taken_heads, rule_effect, own_effect, is_own_child, place_of_me}
-use Rattle.hem_law.proofs.Inverted.{chosen, if_some, if_passed}
+use Rattle.hem_rows.proofs.Choices.{chosen, if_some, if_passed}
 
 -- its kind and rule, and that the child that it names is its object's
 pub record IsOwnEffect (p : Protocol) (tree : Tree) (f : Firing) (local : Local) (heads : Heads) (e : Effect) : Type 0 where

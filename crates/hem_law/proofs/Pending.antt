@@ -23,16 +23,18 @@ use Rattle.hem_fire.specs.View.{view_of}
 use Rattle.hem_system.specs.State.{Effect, is_own_child, place_of_me, rule_effect, own_effect, taken_heads}
 use Rattle.hem_trace.specs.History.{Event}
 use Rattle.hem_trace.specs.Blocks.{Each}
-use Rattle.hem_trace.specs.Order.{is_upward_template, is_upward}
+use Rattle.hem_template.specs.Waiting.{is_upward_template, is_downward_template}
+use Rattle.hem_trace.specs.Order.{is_upward}
 use Rattle.hem_law.specs.Chains.{heads_seen, ChainStep, IsChain}
-use Rattle.hem_law.specs.Windows.{is_downward_template, is_downward, IsStillPossible}
-use Rattle.hem_law.proofs.Inverted.{chosen}
+use Rattle.hem_trace.specs.Templates.{is_downward}
+use Rattle.hem_law.specs.Windows.{IsStillPossible}
+use Rattle.hem_rows.proofs.Choices.{chosen}
 use Rattle.hem_law.proofs.OwnEffect.{IsOwnEffect, own_effect-parts}
-use Rattle.hem_law.proofs.TemplateRows.{of-row}
-use Rattle.hem_law.proofs.UplockUnseen.{with_up}
-use Rattle.hem_law.proofs.OneRule.{Does, can-parts}
-use Rattle.hem_law.proofs.UpwardMoves.{rq_up, rq_up-moves, rq_up_self-moves}
-use Rattle.hem_law.proofs.TemplateForms.{is-rq_up, is-rq_up_self, imm_up-unseen, rq_down_down-unseen, rs_up_up-unseen}
+use Rattle.hem_rows.proofs.Rows.{of_row}
+use Rattle.hem_abstract.proofs.UplockUnseen.{with_up}
+use Rattle.hem_abstract.proofs.OneRule.{Does, can-parts}
+use Rattle.hem_abstract.proofs.UpwardMoves.{rq_up, rq_up-moves, rq_up_self-moves}
+use Rattle.hem_abstract.proofs.TemplateForms.{is-rq_up, is-rq_up_self, imm_up-unseen, rq_down_down-unseen, rs_up_up-unseen}
 use Rattle.hem_law.proofs.DirLength.{local_after-length}
 
 -- an effect that is there, by its fields
@@ -60,9 +62,9 @@ of-template p tree f test kind rule there named is =
 
 -- a rule that works downward does the same with another uplock
 downward-unseen : (p : Protocol) (kind : Kind) (rule : Rule) (me : Option ℕ) (local : Local) (heads : Heads) (next : Local) (outs : Outs) (x : Option Lock) (t : Result TemplateName Clause) → template_of p kind rule ≡ t → is_downward_template t ≡ true → Does p kind rule me local heads next outs → Does p kind rule me (with_up x local) heads (with_up x next) outs
-downward-unseen p kind rule me local heads next outs x (Ok ImmUp) is down does = imm_up-unseen p kind rule me local heads next outs x (of-row p kind rule ImmUp is) does
-downward-unseen p kind rule me local heads next outs x (Ok RqDownDown) is down does = rq_down_down-unseen p kind rule me local heads next outs x (of-row p kind rule RqDownDown is) does
-downward-unseen p kind rule me local heads next outs x (Ok RsUpUp) is down does = rs_up_up-unseen p kind rule me local heads next outs x (of-row p kind rule RsUpUp is) does
+downward-unseen p kind rule me local heads next outs x (Ok ImmUp) is down does = imm_up-unseen p kind rule me local heads next outs x (of_row p kind rule ImmUp is) does
+downward-unseen p kind rule me local heads next outs x (Ok RqDownDown) is down does = rq_down_down-unseen p kind rule me local heads next outs x (of_row p kind rule RqDownDown is) does
+downward-unseen p kind rule me local heads next outs x (Ok RsUpUp) is down does = rs_up_up-unseen p kind rule me local heads next outs x (of_row p kind rule RsUpUp is) does
 downward-unseen p kind rule me local heads next outs x _ is down does = cc
 
 -- so does its firing
@@ -122,13 +124,13 @@ pub record Moves (p : Protocol) (kind : Kind) (rule : Rule) (me : Option ℕ) (l
 
 pub rule-moves : (p : Protocol) (kind : Kind) (rule : Rule) (me : Option ℕ) (local later : Local) (heads : Heads) (next : Local) (outs : Outs) (t : Result TemplateName Clause) → template_of p kind rule ≡ t → is_upward_template t ≡ true → Does p kind rule me local heads next outs → later.up ≡ None → later.down ≡ None → length later.dir ≡ length local.dir → holds rule.guard later (view_of rule.take me local heads) ≡ true → ((v : Value) → value_sent rule.send ≡ Some v → value_of v later (view_of rule.take me local heads) ≡ value_of v local (view_of rule.take me local heads)) → Moves p kind rule me local later heads next outs
 rule-moves p kind rule me local later heads next outs (Ok RqUp) is upward does up down size guarded value =
-    let form = is-rq_up p kind rule (of-row p kind rule RqUp is) in
+    let form = is-rq_up p kind rule (of_row p kind rule RqUp is) in
     let it = rq_up-moves p kind rule.name form.0 rule.guard origin.Child form.1 form.2 me local later heads next outs (subst (λ r. Does p kind r me local heads next outs) form.3 does) up down size
     (subst (λ r. holds r.guard later (view_of r.take me local heads) ≡ true) form.3 guarded)
     (subst (λ r. (v : Value) → value_sent r.send ≡ Some v → value_of v later (view_of r.take me local heads) ≡ value_of v local (view_of r.take me local heads)) form.3 value form.2 refl) in
     record { lock = it.0; held = it.1; again = subst (λ r. Does p kind r me later heads (with_up (Some it.0) later) outs) (sym form.3) it.2 }
 rule-moves p kind rule me local later heads next outs (Ok RqUpSelf) is upward does up down size guarded value =
-    let form = is-rq_up_self p kind rule (of-row p kind rule RqUpSelf is) in
+    let form = is-rq_up_self p kind rule (of_row p kind rule RqUpSelf is) in
     let it = rq_up_self-moves p kind rule.name rule.guard origin.Own form.0 form.1 me local later heads next outs (subst (λ r. Does p kind r me local heads next outs) form.2 does) up down size
     (subst (λ r. holds r.guard later (view_of r.take me local heads) ≡ true) form.2 guarded)
     (subst (λ r. (v : Value) → value_sent r.send ≡ Some v → value_of v later (view_of r.take me local heads) ≡ value_of v local (view_of r.take me local heads)) form.2 value form.1 refl) in
@@ -138,7 +140,7 @@ rule-moves p kind rule me local later heads next outs _ is upward does up down s
 -- both locks are free where an upward request fires
 pub rule-free : (p : Protocol) (kind : Kind) (rule : Rule) (me : Option ℕ) (local : Local) (heads : Heads) (next : Local) (outs : Outs) (t : Result TemplateName Clause) → template_of p kind rule ≡ t → is_upward_template t ≡ true → Does p kind rule me local heads next outs → (local.up ≡ None) × (local.down ≡ None)
 rule-free p kind rule me local heads next outs (Ok RqUp) is upward does =
-    let form = is-rq_up p kind rule (of-row p kind rule RqUp is) in
+    let form = is-rq_up p kind rule (of_row p kind rule RqUp is) in
     let parts = can-parts p kind (rq_up rule.name (take.Me form.0) rule.guard origin.Child form.1 form.2) me local heads (subst (λ r. can_fire p kind r me local heads ≡ true) form.3 does.can) in
     (none_there local.up parts.up, none_there local.down parts.down)
   where
@@ -146,7 +148,7 @@ rule-free p kind rule me local heads next outs (Ok RqUp) is upward does =
     none_there None is = refl
     none_there (Some lock) is = cc
 rule-free p kind rule me local heads next outs (Ok RqUpSelf) is upward does =
-    let form = is-rq_up_self p kind rule (of-row p kind rule RqUpSelf is) in
+    let form = is-rq_up_self p kind rule (of_row p kind rule RqUpSelf is) in
     let parts = can-parts p kind (rq_up rule.name take.Nothing rule.guard origin.Own form.0 form.1) me local heads (subst (λ r. can_fire p kind r me local heads ≡ true) form.2 does.can) in
     (none_there local.up parts.up, none_there local.down parts.down)
   where

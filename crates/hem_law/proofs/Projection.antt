@@ -19,7 +19,7 @@ use Rattle.hem_law.specs.Chains.{own_events, firings, heads_seen, ChainStep, IsC
 use Rattle.hem_law.specs.Flows.{IsFirst, IsFlow}
 use Rattle.hem_law.specs.Leads.{Leads}
 use Rattle.hem_system.proofs.TakenHeads.{own_effect-enough}
-use Rattle.hem_law.proofs.Inverted.{both, if_some, if_mapped}
+use Rattle.hem_rows.proofs.Choices.{both, if_some, if_mapped}
 use Rattle.hem_law.proofs.OwnEffect.{own_effect-parts, own_effect-took}
 use Rattle.hem_law.proofs.Children.{at_bits, heads-met}
 use Rattle.hem_law.proofs.LineParts.{slice_get-map_each, length-map_each, list_at-after, local_at-after}

@@ -17,8 +17,9 @@ use Rattle.hem_work.specs.Work.{Work, requests_of}
 use Rattle.hem_object.specs.Start.{first_local}
 use Rattle.hem_system.specs.State.{Line, Cell, local_at, first_cell, first_line, start}
 use Rattle.hem_trace.specs.Blocks.{Each}
-use Rattle.hem_law.specs.Stable.{IsOfKind, AreOfKinds}
-use Rattle.hem_law.proofs.Inverted.{both, if_mapped}
+use Rattle.hem_abstract.specs.Stable.{IsOfKind}
+use Rattle.hem_law.specs.Kinds.{AreOfKinds}
+use Rattle.hem_rows.proofs.Choices.{both, if_mapped}
 use Rattle.hem_law.proofs.LineParts.{slice_get-map_each}
 
 -- the statuses at the start are declared

@@ -19,7 +19,7 @@ use Rattle.hem_fire.specs.Heads.{has_id, awaited_of, takes_there}
 use Rattle.hem_fire.specs.OneFire.{Heads, can_fire, outs_of}
 use Rattle.hem_system.specs.State.{Effect, own_effect, place_of_me}
 use Rattle.hem_system.proofs.Kids.{child_at}
-use Rattle.hem_law.proofs.Inverted.{chosen, both}
+use Rattle.hem_rows.proofs.Choices.{chosen, both}
 use Rattle.hem_law.proofs.OwnEffect.{own_effect-parts}
 
 -- a message is there

@@ -11,7 +11,7 @@ use Rattle.hem_system.specs.declared.lane.Lane.TheVariants.{UpRequests, UpRespon
 use Rattle.hem_system.specs.State.{State, Line, LineStep, is_own_child, own_effect, effect_of, local_at, heads_of, line_after, line_step_of, fire, run}
 use Rattle.hem_trace.specs.History.{Event, Channel, channels_taken, takes_from, events}
 use Rattle.hem_trace.specs.Blocks.{Each}
-use Rattle.hem_law.proofs.Inverted.{if_some, if_mapped}
+use Rattle.hem_rows.proofs.Choices.{if_some, if_mapped}
 use Rattle.hem_law.proofs.OwnEffect.{own_effect-parts}
 use Rattle.hem_law.proofs.ListFacts.{each-map, each-append, each-filter, each-passes, each-both}
 use Rattle.hem_law.proofs.AllLines.{made-on}

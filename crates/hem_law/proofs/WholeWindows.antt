@@ -12,11 +12,13 @@ use Rattle.hem_tree.specs.Tree.{Tree, kind_of}
 use Rattle.hem_system.specs.State.{State, local_at}
 use Rattle.hem_trace.specs.History.{Event}
 use Rattle.hem_trace.specs.Blocks.{Each}
-use Rattle.hem_trace.specs.Order.{Entry, is_upward_template}
+use Rattle.hem_trace.specs.Order.{Entry}
+use Rattle.hem_template.specs.Waiting.{is_upward_template}
 use Rattle.hem_law.specs.Chains.{heads_seen, IsChain}
 use Rattle.hem_law.specs.Printed.{event_of, on_line, entries_at, IsFresh, EntriesRun}
 use Rattle.hem_law.specs.Windows.{Window, as_made, ArePlaced, IsWhole, EndsReady, AreWindows, HasWindows, HasWholeWindows}
-use Rattle.hem_law.specs.Stable.{IsOfKind, AreOfKinds, IsStable}
+use Rattle.hem_abstract.specs.Stable.{IsOfKind, IsStable}
+use Rattle.hem_law.specs.Kinds.{AreOfKinds}
 use Rattle.hem_law.proofs.ListFacts.{each-map, each-passes}
 use Rattle.hem_law.proofs.OwnEffect.{own_effect-parts}
 use Rattle.hem_law.proofs.Pending.{of-template}

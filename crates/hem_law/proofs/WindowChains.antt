@@ -9,7 +9,8 @@ use Rattle.hem_trace.specs.History.{Event}
 use Rattle.hem_trace.specs.Order.{Entry}
 use Rattle.hem_law.specs.Chains.{IsChain}
 use Rattle.hem_law.specs.Printed.{event_of}
-use Rattle.hem_law.specs.Windows.{is_downward, Window, as_moved, EndsReady, AreWindows}
+use Rattle.hem_trace.specs.Templates.{is_downward}
+use Rattle.hem_law.specs.Windows.{Window, as_moved, EndsReady, AreWindows}
 use Rattle.hem_law.proofs.TakenChannels.{each-mapped}
 use Rattle.hem_law.proofs.Pending.{waits-behind}
 

@@ -20,10 +20,9 @@ use Rattle.hem_syntax.specs.declared.rule.SendTo.TheVariants as send
 use Rattle.hem_template.specs.declared.clause.Clause.{Clause}
 use Rattle.hem_template.specs.declared.template_name.TemplateName.{TemplateName}
 use Rattle.hem_template.specs.declared.template_name.TemplateName.TheVariants.{ImmUp, RqUp, RqUpSelf, RqDownDown, RsUpUp}
-use Rattle.hem_syntax.specs.Protocol.{Protocol, class_of}
+use Rattle.hem_syntax.specs.Protocol.{Protocol, class_of, has_class, is_up_req, is_up_rsp}
 use Rattle.hem_object.specs.Local.{Local}
 use Rattle.hem_template.specs.Template.{template_of}
-use Rattle.hem_syntax.specs.Protocol.{has_class, is_up_req, is_up_rsp}
 use Rattle.hem_tree.specs.Tree.{Tree, is_child, place_among}
 use Rattle.hem_fire.specs.declared.outs.To.TheVariants as to
 use Rattle.hem_fire.specs.declared.outs.Outs.{Outs}
@@ -36,15 +35,17 @@ use Rattle.hem_system.specs.declared.lane.Lane.TheVariants.{UpRequests, UpRespon
 use Rattle.hem_system.specs.State.{place_of_me, takes, reaches}
 use Rattle.hem_trace.specs.History.{Event}
 use Rattle.hem_trace.specs.Blocks.{Each}
-use Rattle.hem_trace.specs.Order.{Entry, is_upward_template, is_upward}
+use Rattle.hem_trace.specs.Order.{Entry, is_upward}
+use Rattle.hem_template.specs.Waiting.{is_upward_template, is_downward_template}
 use Rattle.hem_law.specs.Chains.{heads_seen, ChainStep, IsChain}
 use Rattle.hem_law.specs.Parts.{takers, senders}
 use Rattle.hem_law.specs.Printed.{event_of}
-use Rattle.hem_law.specs.Windows.{is_downward_template, is_downward, Window, as_made, as_moved, EndsReady, AreWindows}
+use Rattle.hem_trace.specs.Templates.{is_downward}
+use Rattle.hem_law.specs.Windows.{Window, as_made, as_moved, EndsReady, AreWindows}
 use Rattle.hem_law.proofs.OwnEffect.{own_effect-parts}
 use Rattle.hem_law.proofs.Filters.{filter-no}
 use Rattle.hem_law.proofs.ListFacts.{each-map}
-use Rattle.hem_law.proofs.TemplateRows.{of-row}
+use Rattle.hem_rows.proofs.Rows.{of_row}
 use Rattle.hem_law.proofs.Pending.{does-from, of-template}
 
 -- it takes a child's or a processor's request, or nothing, and sends a request up
@@ -93,12 +94,12 @@ takes-above p kind rule me local heads t is (inr it) = (rw (is, it) refl, rw (is
 
 upward-outs : (p : Protocol) (kind : Kind) (rule : Rule) (me : Option ℕ) (local : Local) (heads : Heads) (t : Result TemplateName Clause) → template_of p kind rule ≡ t → is_upward_template t ≡ true → WorksUp (outs_of p kind rule me local heads)
 upward-outs p kind rule me local heads (Ok RqUp) is upward =
-    let of = of-row p kind rule RqUp is in
+    let of = of_row p kind rule RqUp is in
     let t = takes-above p kind rule me local heads rule.take refl (inl of.taking) in
     let s = of.sending in
     record { parent = t.0; kids = t.1; sends = goes-request p rule me kind local heads s.0 s.1 s.2 s.3 }
 upward-outs p kind rule me local heads (Ok RqUpSelf) is upward =
-    let of = of-row p kind rule RqUpSelf is in
+    let of = of_row p kind rule RqUpSelf is in
     let t = takes-above p kind rule me local heads rule.take refl (inr of.taking) in
     let s = of.sending in
     record { parent = t.0; kids = t.1; sends = goes-request p rule me kind local heads s.0 s.1 s.2 s.3 }
@@ -107,17 +108,17 @@ upward-outs p kind rule me local heads _ is upward = cc
 -- and of a downward one
 downward-outs : (p : Protocol) (kind : Kind) (rule : Rule) (me : Option ℕ) (local : Local) (heads : Heads) (t : Result TemplateName Clause) → template_of p kind rule ≡ t → is_downward_template t ≡ true → WorksDown (outs_of p kind rule me local heads)
 downward-outs p kind rule me local heads (Ok ImmUp) is down =
-    let of = of-row p kind rule ImmUp is in
+    let of = of_row p kind rule ImmUp is in
     let t = of.taking in
     let s = of.sending in
     record { me = rw t.1 refl; sends = inl (goes-response p rule me kind local heads s.0 s.1 s.2 s.3) }
 downward-outs p kind rule me local heads (Ok RqDownDown) is down =
-    let of = of-row p kind rule RqDownDown is in
+    let of = of_row p kind rule RqDownDown is in
     let t = of.taking in
     let s = of.sending in
     record { me = rw t.1 refl; sends = inr (targets_of (send.Kids s.0 s.1 s.2) local (view_of rule.take me local heads), goes-kids p rule me kind local heads s.0 s.1 s.2 s.3) }
 downward-outs p kind rule me local heads (Ok RsUpUp) is down =
-    let of = of-row p kind rule RsUpUp is in
+    let of = of_row p kind rule RsUpUp is in
     let t = of.taking in
     let s = of.sending in
     record { me = rw t.1 refl; sends = inl (goes-response p rule me kind local heads s.0 s.1 s.2 s.3) }

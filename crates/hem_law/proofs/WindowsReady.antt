@@ -22,30 +22,32 @@ use Rattle.hem_fire.specs.OneFire.{Heads}
 use Rattle.hem_fire.specs.View.{view_of}
 use Rattle.hem_system.specs.State.{place_of_me, own_effect}
 use Rattle.hem_trace.specs.Blocks.{Each}
-use Rattle.hem_trace.specs.Order.{Entry, is_upward_template, is_upward}
+use Rattle.hem_trace.specs.Order.{Entry, is_upward}
+use Rattle.hem_template.specs.Waiting.{is_upward_template, is_downward_template, template_if}
 use Rattle.hem_law.specs.Chains.{heads_seen, IsChain}
 use Rattle.hem_law.specs.Printed.{event_of}
-use Rattle.hem_law.specs.Windows.{is_downward_template, is_downward, if_template, template_at, AreWholeBlocks, IsStillPossible, EndsReady}
-use Rattle.hem_law.specs.Abstract.{guard_at, abstract_of, AreSmall}
-use Rattle.hem_law.specs.Partners.{sends_val}
-use Rattle.hem_law.proofs.Inverted.{if_some}
+use Rattle.hem_trace.specs.Templates.{is_downward, template_at}
+use Rattle.hem_law.specs.Windows.{AreWholeBlocks, IsStillPossible, EndsReady}
+use Rattle.hem_abstract.specs.Abstract.{guard_at, abstract_of, AreSmall}
+use Rattle.hem_abstract.specs.Partners.{sends_val}
+use Rattle.hem_rows.proofs.Choices.{if_some}
 use Rattle.hem_law.proofs.OwnEffect.{own_effect-parts}
-use Rattle.hem_law.proofs.Exact.{guard-exact}
-use Rattle.hem_law.proofs.TemplateRows.{of-row}
-use Rattle.hem_law.proofs.OneRule.{Does, can-parts}
+use Rattle.hem_abstract.proofs.Exact.{guard-exact}
+use Rattle.hem_rows.proofs.Rows.{of_row}
+use Rattle.hem_abstract.proofs.OneRule.{Does, can-parts}
 use Rattle.hem_law.proofs.Pending.{does-from, of-template, rule-free, rule-moves}
-use Rattle.hem_law.proofs.PartnersKeep.{scope-none}
+use Rattle.hem_abstract.proofs.PartnersKeep.{scope-none}
 use Rattle.hem_syntax.specs.Lawful.{IsProtocol}
-use Rattle.hem_law.specs.Stable.{first_unstable, IsOfKind}
-use Rattle.hem_law.proofs.StableNever.{stable-never, of-kind-small}
+use Rattle.hem_abstract.specs.Stable.{first_unstable, IsOfKind}
+use Rattle.hem_abstract.proofs.StableNever.{stable-never, of-kind-small}
 use Rattle.hem_law.proofs.KindKept.{sets-fit, of-kind-next}
 use Rattle.hem_law.proofs.BlocksReady.{IsSteady, if-template, blocks-stand}
 
 -- the firings of whole blocks work downward
 template-down : (p : Protocol) (tree : Tree) (f : Firing) (t : TemplateName) → template_at p tree f ≡ Some t → is_downward_template (Ok t) ≡ true → is_downward p tree f ≡ true
 template-down p tree f t is down =
-    let kind = if_some (λ kind. option_and_then (λ rule. if_template (template_of p kind rule)) (rule_named p kind f.rule)) (kind_of tree f.object.0) t is in
-    let rule = if_some (λ rule. if_template (template_of p kind.0 rule)) (rule_named p kind.0 f.rule) t kind.2 in
+    let kind = if_some (λ kind. option_and_then (λ rule. template_if (template_of p kind rule)) (rule_named p kind f.rule)) (kind_of tree f.object.0) t is in
+    let rule = if_some (λ rule. template_if (template_of p kind.0 rule)) (rule_named p kind.0 f.rule) t kind.2 in
     let found = if-template (template_of p kind.0 rule.0) t rule.2 in
     ap (λ k. option_map_or (λ kind. option_map_or (λ rule. is_downward_template (template_of p kind rule)) (rule_named p kind f.rule) false) k false) kind.1
     ∙ ap (λ r. option_map_or (λ rule. is_downward_template (template_of p kind.0 rule)) r false) rule.1
@@ -60,13 +62,13 @@ blocks-down p tree (x ∷ y ∷ xs) (inr it) = (template-down p tree x.event.fir
 
 -- an upward request reads no request of a lock, neither the requester nor the others
 reads-nothing : (p : Protocol) (kind : Kind) (u : Rule) (t : Result TemplateName Clause) → template_of p kind u ≡ t → is_upward_template t ≡ true → list_any reads_me u.guard ≡ false
-reads-nothing p kind u (Ok RqUp) is upward = scope-none p kind u RqUp (of-row p kind u RqUp is) refl
-reads-nothing p kind u (Ok RqUpSelf) is upward = scope-none p kind u RqUpSelf (of-row p kind u RqUpSelf is) refl
+reads-nothing p kind u (Ok RqUp) is upward = scope-none p kind u RqUp (of_row p kind u RqUp is) refl
+reads-nothing p kind u (Ok RqUpSelf) is upward = scope-none p kind u RqUpSelf (of_row p kind u RqUpSelf is) refl
 reads-nothing p kind u _ is upward = cc
 
 no-kept : (p : Protocol) (kind : Kind) (u : Rule) (me : Option ℕ) (local : Local) (heads : Heads) (t : Result TemplateName Clause) → template_of p kind u ≡ t → is_upward_template t ≡ true → (view_of u.take me local heads).kept ≡ None
-no-kept p kind u me local heads (Ok RqUp) is upward = let of = of-row p kind u RqUp is in let take_is = of.taking in ap (λ (t : Take). (view_of t me local heads).kept) take_is.1
-no-kept p kind u me local heads (Ok RqUpSelf) is upward = let of = of-row p kind u RqUpSelf is in ap (λ (t : Take). (view_of t me local heads).kept) of.taking
+no-kept p kind u me local heads (Ok RqUp) is upward = let of = of_row p kind u RqUp is in let take_is = of.taking in ap (λ (t : Take). (view_of t me local heads).kept) take_is.1
+no-kept p kind u me local heads (Ok RqUpSelf) is upward = let of = of_row p kind u RqUpSelf is in ap (λ (t : Take). (view_of t me local heads).kept) of.taking
 no-kept p kind u me local heads _ is upward = cc
 
 -- its guard, by the abstract state

@@ -1,49 +1,23 @@
 -- What may happen at an object while a request that it sent up waits.
-use Rattle.std.specs.Prelude.{ℕ, ◌≡◌, ◌<◌, ◌≤◌, Bool, true, false, List, [], ◌∷◌, ◌++◌, map, flat_map, Option, Some, None, slice_get, Result, Ok, Err, option_and_then, option_to_list, ◌⊎◌}
-use Rattle.std.specs.Option.{option_map_or}
+use Rattle.std.specs.Prelude.{ℕ, ◌≡◌, ◌<◌, ◌≤◌, Bool, true, false, List, [], ◌∷◌, ◌++◌, map, flat_map, Option, Some, None, slice_get, option_to_list, ◌⊎◌}
 use Rattle.hem_base.specs.declared.ids.Firing.{Firing}
 use Rattle.hem_base.specs.declared.ids.Kind.{Kind}
 use Rattle.hem_syntax.specs.declared.rule.Rule.{Rule}
 use Rattle.hem_syntax.specs.declared.rule.Value.{Value}
-use Rattle.hem_template.specs.declared.template_name.TemplateName.{TemplateName}
 use Rattle.hem_template.specs.declared.template_name.TemplateName.TheVariants.{ImmUp, RqDownDown, RsUpUp}
-use Rattle.hem_template.specs.declared.clause.Clause.{Clause}
 use Rattle.hem_syntax.specs.Protocol.{Protocol, rule_named}
 use Rattle.hem_object.specs.Local.{Local}
 use Rattle.hem_object.specs.Guard.{holds, value_of}
-use Rattle.hem_template.specs.Template.{template_of, value_sent}
+use Rattle.hem_template.specs.Template.{value_sent}
 use Rattle.hem_tree.specs.Tree.{Tree, kind_of}
 use Rattle.hem_fire.specs.Heads.{Heads}
 use Rattle.hem_fire.specs.View.{view_of}
 use Rattle.hem_system.specs.State.{State, Line, local_at, place_of_me}
 use Rattle.hem_trace.specs.Blocks.{Each}
 use Rattle.hem_trace.specs.Order.{Entry, is_upward, anchor_of, is_moved}
+use Rattle.hem_trace.specs.Templates.{template_at, is_downward}
 use Rattle.hem_law.specs.Chains.{heads_seen, IsChain}
 use Rattle.hem_law.specs.Printed.{entries_at}
-
--- whether a template answers a parent's request, passes it on, or answers it after the children did
-abbrev pub is_downward_template : Result TemplateName Clause → Bool
-is_downward_template (Ok ImmUp) = true
-is_downward_template (Ok RqDownDown) = true
-is_downward_template (Ok RsUpUp) = true
-is_downward_template _ = false
-
--- whether a firing is of such a template
-abbrev pub is_downward : Protocol → Tree → Firing → Bool
-is_downward p tree f =
-    option_map_or (λ kind. option_map_or (λ rule. is_downward_template (template_of p kind rule)) (rule_named p kind f.rule) false)
-    (kind_of tree f.object.0) false
-
--- the template, where there is one
-abbrev pub if_template : Result TemplateName Clause → Option TemplateName
-if_template (Ok t) = Some t
-if_template (Err c) = None
-
--- the template of a firing's rule, where it has one
-abbrev pub template_at : Protocol → Tree → Firing → Option TemplateName
-template_at p tree f =
-    option_and_then (λ kind. option_and_then (λ rule. if_template (template_of p kind rule)) (rule_named p kind f.rule))
-    (kind_of tree f.object.0)
 
 -- the firings are whole downward blocks: a request of the parent that is answered at once, or one that is passed on and then answered
 abbrev pub AreWholeBlocks : Protocol → Tree → List Entry → Type 0

@@ -3,9 +3,8 @@
 //! Each function does nothing, and its contract is a law.
 #![tactic(auto)]
 
-ghost use Rattle.std.specs.Prelude.{◌≡◌, ◌≢◌, ℕ, true, false, List, [], ◌∷◌, ◌++◌, Some, None, length, map, filter, slice_get, option_map};
+ghost use Rattle.std.specs.Prelude.{◌≡◌, ◌≢◌, ℕ, true, false, List, [], ◌∷◌, ◌++◌, Some, None, length, map, filter, slice_get, option_map, ◌==◌, ◌<◌};
 ghost use Rattle.std.specs.List.{list_any};
-ghost use Rattle.std.specs.Prelude.{◌==◌, ◌<◌};
 ghost use Rattle.hem_base.specs.declared.ids.Firing.{Firing};
 ghost use Rattle.hem_syntax.specs.declared.rule.Atom.{Atom};
 ghost use Rattle.hem_object.specs.declared.state.View.{View};
@@ -32,11 +31,13 @@ ghost use Rattle.hem_law.specs.Lists.{IsPairwise, IsBelow};
 ghost use Rattle.hem_law.specs.Normal.{IsEarlier, InOrder, AreRising, OnlyUp, AreNumbered, TakeOneNumber};
 ghost use Rattle.hem_law.specs.Orders.{stands_in, RowsAgree, HaveRanks};
 ghost use Rattle.hem_law.specs.Printed.{event_of, firings_in, IsFresh, AreTransactions, EntriesRun, KeepsObjects, NormalRuns};
-ghost use Rattle.hem_law.specs.Windows.{is_downward, IsStillPossible, AreWholeBlocks, EndsReady, HasWindows};
-ghost use Rattle.hem_law.specs.Partners.{Partner, IsPartner, breaks};
-ghost use Rattle.hem_law.specs.Stable.{first_unstable, IsOfKind, AreOfKinds, IsStable};
+ghost use Rattle.hem_trace.specs.Templates.{is_downward};
+ghost use Rattle.hem_law.specs.Windows.{IsStillPossible, AreWholeBlocks, EndsReady, HasWindows};
+ghost use Rattle.hem_abstract.specs.Partners.{Partner, IsPartner, breaks};
+ghost use Rattle.hem_abstract.specs.Stable.{first_unstable, IsOfKind, IsStable};
+ghost use Rattle.hem_law.specs.Kinds.{AreOfKinds};
 ghost use Rattle.hem_law.specs.Orderly.{IsOrderly};
-ghost use Rattle.hem_law.specs.Abstract.{AreSmall, guard_at, abstract_of};
+ghost use Rattle.hem_abstract.specs.Abstract.{AreSmall, guard_at, abstract_of};
 ghost use Rattle.hem_law.specs.Lines.{line_firings, LineRuns};
 
 /// Events that are a chain at each object and a flow in each list run on the line, and are the events of that run.
@@ -115,16 +116,6 @@ pub fn waiting_requests_move()
 pub fn windows_give_the_normal_order()
     ensures keeps { (p : Protocol) (tree : Tree) (s : State) (es : List Entry) (new : State) → AreTransactions tree es → EntriesRun p tree s es new → HasWindows p tree s es new → KeepsObjects p tree s es (normal es) new }
     ensures runs { (p : Protocol) (tree : Tree) (s : State) (h : List Firing) (new : State) → IsFresh tree s → run p tree s h ≡ Some new → AreNumbered tree no_tags (entries_of p tree s h) → Each (OnlyUp (entries_of p tree s h)) (entries_of p tree s h) → HasWindows p tree s (entries_of p tree s h) new → EntriesRun p tree s (normal (entries_of p tree s h)) new }
-{}
-
-/// A guard that reads neither the requester nor the others holds in a local state exactly where it holds in its abstract state.
-pub fn abstract_guards_are_exact()
-    ensures { (local : Local) (view : View) (guard : List Atom) → AreSmall local.dir → list_any reads_me guard ≡ false → guard_at guard (abstract_of local) (option_map (λ m. m.id) view.kept) ≡ holds guard local view }
-{}
-
-/// No partner breaks a rule of which the kind has no breach, in the abstract state of any local state of the kind.
-pub fn stable_rules_are_never_broken()
-    ensures { (p : Protocol) (kind : Kind) (u : Rule) (d : Partner) (local : Local) → first_unstable p kind u ≡ None → IsPartner p kind d → IsOfKind p kind local → breaks u d (abstract_of local) ≡ false }
 {}
 
 /// A window of a stable upward request and whole downward blocks ends so that the request could be made instead.

@@ -8,9 +8,10 @@ use Rattle.hem_object.specs.Local.{Local}
 use Rattle.hem_fire.specs.OneFire.{Heads, OneFire, can_fire, local_after, outs_of}
 use Rattle.hem_tree.specs.Tree.{Tree, kind_of}
 use Rattle.hem_system.specs.State.{Line, Effect, local_at, heads_of, taken_heads, is_own_child, place_of_me, rule_effect, own_effect, effect_of}
-use Rattle.hem_locks.specs.Acted.{AllHaveTemplates, IsActed}
-use Rattle.hem_locks.proofs.Choices.{if_some, if_passed}
-use Rattle.hem_locks.proofs.Acts.{acts_by_template}
+use Rattle.hem_rows.specs.Rows.{AllHaveTemplates}
+use Rattle.hem_locks.specs.Acted.{IsActed}
+use Rattle.hem_rows.proofs.Choices.{if_some, if_passed}
+use Rattle.hem_rows.proofs.Acts.{acts_by_template}
 
 -- what is chosen where a test holds
 chosen : {A : Type 0} (b : Bool) (x y : A) → cond b (Some x) None ≡ Some y → (b ≡ true) × (x ≡ y)

@@ -21,12 +21,12 @@ use Rattle.hem_tree.specs.Tree.{Tree, parent_of, place_among}
 use Rattle.hem_system.specs.declared.lane.Lane.TheVariants.{UpRequests, Down}
 use Rattle.hem_system.specs.State.{Cell, Line, Effect, heads_of, place_of_me}
 use Rattle.hem_system.proofs.Takers.{parent_is}
-use Rattle.hem_locks.specs.Acts.{is_down_response, takes_me, Acts}
+use Rattle.hem_rows.specs.Acts.{is_down_response, takes_me, Acts}
 use Rattle.hem_locks.specs.Acted.{IsActed}
 use Rattle.hem_locks.specs.Edges.{one_if, count, for_parent, held, EdgesHold}
 use Rattle.hem_locks.specs.Allowed.{FreesFor, ServesParent}
 use Rattle.hem_locks.specs.Clean.{IsCleanAt, AreInLine, AreCleanAt}
-use Rattle.hem_locks.proofs.Choices.{if_mapped}
+use Rattle.hem_rows.proofs.Choices.{if_mapped}
 use Rattle.hem_locks.proofs.Counts.{count-cons}
 use Rattle.hem_locks.proofs.LockNumbers.{needed-parent}
 use Rattle.hem_locks.proofs.Lines.{head_of, local_of, me_there}

@@ -9,11 +9,10 @@ use Rattle.std.proofs.lemmas.List.Folds.{list_all-append}
 use Rattle.hem_base.specs.declared.ids.Message.{Message}
 use Rattle.hem_syntax.specs.declared.rule.Class.{Class}
 use Rattle.hem_syntax.specs.declared.rule.Class.TheVariants.{ExtReq, ExtRsp, UpReq, UpRsp, DownReq, DownRsp}
-use Rattle.hem_syntax.specs.Protocol.{Protocol, class_of}
-use Rattle.hem_syntax.specs.Protocol.{is_down_req, is_down_rsp}
-use Rattle.hem_locks.specs.Acts.{IsThere, is_down_request, is_down_response}
+use Rattle.hem_syntax.specs.Protocol.{Protocol, class_of, is_down_req, is_down_rsp}
+use Rattle.hem_rows.specs.Acts.{IsThere, is_down_request, is_down_response}
 use Rattle.hem_locks.specs.Edges.{one_if, count, responses_first}
-use Rattle.hem_locks.proofs.Choices.{both}
+use Rattle.hem_rows.proofs.Choices.{both}
 
 -- a list after a firing that takes its head or doesn't, and sends to it or doesn't
 abbrev pub changed : Bool → Bool → Message → List Message → List Message

@@ -4,7 +4,7 @@ use Rattle.std.specs.Prelude.{slice_get}
 use Rattle.hem_base.specs.declared.ids.Message.{Message}
 use Rattle.hem_syntax.specs.Protocol.{Protocol}
 use Rattle.hem_object.specs.Local.{Local}
-use Rattle.hem_locks.specs.Acts.{IsThere, is_down_request, is_down_response}
+use Rattle.hem_rows.specs.Acts.{IsThere, is_down_request, is_down_response}
 use Rattle.hem_locks.specs.Edges.{one_if, for_kid, for_parent, held, awaits, EdgeHolds}
 use Rattle.hem_locks.proofs.Counts.{changed, head_counts, count-changed, length-changed, order-changed}
 

@@ -19,12 +19,13 @@ use Rattle.hem_tree.specs.Tree.{Tree, IsLawful, parent_of, place_among}
 use Rattle.hem_tree.proofs.Early.{lawful_early}
 use Rattle.hem_system.specs.State.{Cell, Line, State, Effect, effect_of, heads_of, local_at, place_of_me}
 use Rattle.hem_system.specs.Quiet.{holds_none, has_no_message, is_idle, is_quiet}
-use Rattle.hem_locks.specs.Acts.{is_down_response, takes_me, IsNamed}
-use Rattle.hem_locks.specs.Acted.{AllHaveTemplates, IsActed}
+use Rattle.hem_rows.specs.Acts.{is_down_response, takes_me, IsNamed}
+use Rattle.hem_rows.specs.Rows.{AllHaveTemplates}
+use Rattle.hem_locks.specs.Acted.{IsActed}
 use Rattle.hem_locks.specs.Edges.{count, LocksHold, AllLocksHold}
 use Rattle.hem_locks.specs.Allowed.{HasTemplate, FreesDownlock, ServesItsParent}
 use Rattle.hem_locks.specs.Clean.{AreFew, AreInLine, AreCleanAt, IsStill, LineIsStill, HoldsNone}
-use Rattle.hem_locks.proofs.Choices.{both}
+use Rattle.hem_rows.proofs.Choices.{both}
 use Rattle.hem_locks.proofs.Acted.{acted}
 use Rattle.hem_locks.proofs.Clean.{few, is_empty}
 use Rattle.hem_locks.proofs.Allowed.{down_freed, waiting_serves, requests_clean}

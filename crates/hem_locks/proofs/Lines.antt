@@ -20,11 +20,11 @@ use Rattle.hem_system.specs.declared.lane.Lane.{Lane}
 use Rattle.hem_system.specs.declared.lane.Lane.TheVariants.{UpRequests, UpResponses, Down}
 use Rattle.hem_system.specs.State.{Cell, Line, Effect, map_each, list_of, head_at, local_at, heads_of, place_of_me, takes, cell_after, line_after}
 use Rattle.hem_system.proofs.Changed.{lists_stay, not_same, is_same}
-use Rattle.hem_locks.specs.Acts.{IsThere, takes_me, takes_kids, AreHeads}
+use Rattle.hem_rows.specs.Acts.{IsThere, takes_me, takes_kids, AreHeads}
 use Rattle.hem_locks.specs.Acted.{IsActed}
 use Rattle.hem_locks.specs.Edges.{for_kid, awaits, EdgeHolds, CellsHold, EdgesHold}
-use Rattle.hem_locks.proofs.Choices.{both, if_mapped}
-use Rattle.hem_locks.proofs.Bits.{no_bit}
+use Rattle.hem_rows.proofs.Choices.{both, if_mapped}
+use Rattle.hem_rows.proofs.Bits.{no_bit}
 use Rattle.hem_locks.proofs.EdgeStep.{Flow, Balances, edge_after}
 use Rattle.hem_locks.proofs.LockNumbers.{one_if-few}
 use Rattle.hem_locks.proofs.Sums.{SumsAbove, SumsBelow, sums_above, sums_below}

@@ -17,7 +17,7 @@ use Rattle.hem_object.specs.Local.{Local, nobody}
 use Rattle.hem_template.specs.declared.row.Taking.{Taking}
 use Rattle.hem_template.specs.declared.row.Taking.TheVariants.{NothingTaken, FromRequester, ParentRequest, ParentResponse, FromKids}
 use Rattle.hem_fire.specs.View.{asker, kid_asker}
-use Rattle.hem_locks.specs.Acts.{IsNeeded, IsTaken, requester_of, up_left, down_left, UpAfter, DownAfter}
+use Rattle.hem_rows.specs.Acts.{IsNeeded, IsTaken, requester_of, up_left, down_left, UpAfter, DownAfter}
 use Rattle.hem_locks.specs.Edges.{one_if, is_kid, is_parent, for_kid, for_parent, held, awaits}
 use Rattle.hem_locks.proofs.Numbers.{up_kept, down_kept, up_number, down_number, new_for_kid, new_for_parent, NeedsKid, NeedsParent, NeedsHeld, NeedsAwaiting, Asking}
 

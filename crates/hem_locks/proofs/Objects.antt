@@ -27,7 +27,7 @@ use Rattle.hem_tree.specs.Tree.{Tree, IsLawful, kind_of, parent_of, is_number, i
 use Rattle.hem_system.specs.declared.lane.Lane.TheVariants.{Down}
 use Rattle.hem_system.specs.State.{Cell, Line, Effect, map_each, heads_of, place_of_me, cell_after, line_after}
 use Rattle.hem_system.proofs.Changed.{lists_stay, is_same}
-use Rattle.hem_locks.specs.Acts.{is_down_request, is_down_response, takes_parent, AreHeads, IsTaken, IsSent, Acts}
+use Rattle.hem_rows.specs.Acts.{is_down_request, is_down_response, takes_parent, AreHeads, IsTaken, IsSent, Acts}
 use Rattle.hem_locks.specs.Acted.{IsActed}
 use Rattle.hem_locks.specs.Edges.{one_if, for_parent, held, AwaitsOne, IsTop, ObjectHolds, ObjectsHold}
 use Rattle.hem_locks.proofs.Counts.{changed, head_counts}

@@ -20,7 +20,7 @@ use Rattle.hem_system.specs.declared.lane.Lane.TheVariants.{UpRequests, UpRespon
 use Rattle.hem_system.specs.State.{Line, takes, reaches, is_own_child, place_of_me, head_at, request_head, heads_of}
 use Rattle.hem_system.proofs.Changed.{not_same, is_same}
 use Rattle.hem_system.proofs.Kids.{child_at}
-use Rattle.hem_locks.proofs.Choices.{if_mapped}
+use Rattle.hem_rows.proofs.Choices.{if_mapped}
 use Rattle.hem_locks.proofs.Sums.{reaches_kid, is_up_request, is_up_response, is_me}
 use Rattle.hem_locks.proofs.EdgeStep.{Flow}
 

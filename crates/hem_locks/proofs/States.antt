@@ -19,9 +19,9 @@ use Rattle.hem_work.specs.Work.{Work, requests_of}
 use Rattle.hem_system.specs.State.{Cell, Line, State, LineStep, Step, Effect, effect_of, line_after, line_step_of, step_of, fire, run, Runs, first_cell, first_line, start}
 use Rattle.hem_system.specs.Steps.{LineFires}
 use Rattle.hem_system.proofs.Sets.{get_set_here, get_set_other}
-use Rattle.hem_locks.specs.Acted.{AllHaveTemplates}
+use Rattle.hem_rows.specs.Rows.{AllHaveTemplates}
 use Rattle.hem_locks.specs.Edges.{EdgeHolds, CellsHold, EdgesHold, ObjectHolds, ObjectsHold, LocksHold, AllLocksHold}
-use Rattle.hem_locks.proofs.Choices.{if_some, if_mapped}
+use Rattle.hem_rows.proofs.Choices.{if_some, if_mapped}
 use Rattle.hem_locks.proofs.Places.{within}
 use Rattle.hem_locks.proofs.Acted.{acted}
 use Rattle.hem_locks.proofs.Lines.{get_map_each, edges_kept}

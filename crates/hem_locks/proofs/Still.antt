@@ -10,10 +10,10 @@ use Rattle.hem_tree.proofs.Early.{lawful_early}
 use Rattle.hem_system.specs.State.{Cell, Line}
 use Rattle.hem_system.proofs.Kids.{at_child}
 use Rattle.hem_system.proofs.Takers.{parent_is}
-use Rattle.hem_locks.specs.Acts.{is_down_request, is_down_response}
+use Rattle.hem_rows.specs.Acts.{is_down_request, is_down_response}
 use Rattle.hem_locks.specs.Edges.{one_if, count, for_kid, for_parent, held, awaits, CellsHold, LocksHold}
 use Rattle.hem_locks.specs.Clean.{IsStill, LineIsStill, HoldsNone}
-use Rattle.hem_locks.proofs.Choices.{if_some}
+use Rattle.hem_rows.proofs.Choices.{if_some}
 use Rattle.hem_locks.proofs.Clean.{not_held}
 
 -- an element within a list

@@ -23,9 +23,9 @@ use Rattle.hem_fire.specs.declared.outs.To.TheVariants as to
 use Rattle.hem_fire.specs.declared.outs.Outs.{Outs}
 use Rattle.hem_fire.specs.Heads.{Heads}
 use Rattle.hem_fire.specs.Sends.{to_requester}
-use Rattle.hem_locks.specs.Acts.{is_down_request, is_down_response, requester_of, takes_me, takes_parent, takes_kids, AreHeads, GoesToKids, IsSent, Acts}
+use Rattle.hem_rows.specs.Acts.{is_down_request, is_down_response, requester_of, takes_me, takes_parent, takes_kids, AreHeads, GoesToKids, IsSent, Acts}
 use Rattle.hem_locks.specs.Edges.{one_if, is_kid, for_kid, for_parent, held, awaits}
-use Rattle.hem_locks.proofs.Bits.{no_bit}
+use Rattle.hem_rows.proofs.Bits.{no_bit}
 use Rattle.hem_locks.proofs.Counts.{head_counts, not_both}
 use Rattle.hem_locks.proofs.Numbers.{requests_taken, responses_taken, answers_sent, asks_sent, new_for_kid, new_for_parent, Sparing, Above, above_adds, answers_taken, asks_taken, requests_sent, responses_sent, Below, below_adds}
 use Rattle.hem_locks.proofs.LockNumbers.{asked_of, one_if-few, asked_of-few, held-few, up_number-is, down_number-is, taken-for_kid, taken-for_parent, taken-held, taken-awaits, needed-kid, needed-parent, needed-held, needed-awaiting, requester-no_parent, requester-asking}

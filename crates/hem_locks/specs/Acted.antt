@@ -1,8 +1,7 @@
--- Protocols of which each rule has a template, and what a firing of one does on a line.
+-- What a firing of a rule that has a template does on a line.
 use Rattle.std.specs.Prelude.{◌≡◌, true, Some, Ok}
 use Rattle.hem_base.specs.declared.ids.Firing.{Firing}
 use Rattle.hem_base.specs.declared.ids.Kind.{Kind}
-use Rattle.hem_base.specs.declared.ids.RuleId.{RuleId}
 use Rattle.hem_syntax.specs.declared.rule.Rule.{Rule}
 use Rattle.hem_template.specs.declared.template_name.TemplateName.{TemplateName}
 use Rattle.hem_syntax.specs.Protocol.{Protocol, rule_named}
@@ -10,11 +9,7 @@ use Rattle.hem_object.specs.Local.{Local}
 use Rattle.hem_template.specs.Template.{template_of, row_of}
 use Rattle.hem_tree.specs.Tree.{Tree, kind_of}
 use Rattle.hem_system.specs.State.{Line, Effect, local_at, heads_of, is_own_child, place_of_me}
-use Rattle.hem_locks.specs.Acts.{Acts}
-
--- each rule that a firing can name has a template
-pub record AllHaveTemplates (p : Protocol) : Type 0 where
-  pub each : (kind : Kind) (name : RuleId) (rule : Rule) → rule_named p kind name ≡ Some rule → (t : TemplateName) × (template_of p kind rule ≡ Ok t)
+use Rattle.hem_rows.specs.Acts.{Acts}
 
 -- a firing on a line acts as the row of its rule's template says
 pub record IsActed (p : Protocol) (tree : Tree) (line : Line) (f : Firing) (e : Effect) : Type 0 where

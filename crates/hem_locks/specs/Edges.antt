@@ -10,7 +10,7 @@ use Rattle.hem_syntax.specs.Protocol.{Protocol}
 use Rattle.hem_object.specs.Local.{Local}
 use Rattle.hem_tree.specs.Tree.{Tree, parent_of, children_of, place_among}
 use Rattle.hem_system.specs.State.{Cell, Line, State}
-use Rattle.hem_locks.specs.Acts.{is_down_request, is_down_response}
+use Rattle.hem_rows.specs.Acts.{is_down_request, is_down_response}
 
 -- 1 where a test passes
 abbrev pub one_if : Bool → ℕ

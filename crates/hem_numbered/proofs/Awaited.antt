@@ -19,8 +19,8 @@ use Rattle.hem_system.specs.declared.lane.Lane.TheVariants.{UpResponses}
 use Rattle.hem_system.specs.State.{Line, head_at, takes, heads_of}
 use Rattle.hem_system.proofs.Kids.{child_at, at_child}
 use Rattle.hem_system.proofs.Takers.{and_left, and_right}
-use Rattle.hem_locks.specs.Acts.{IsThere}
-use Rattle.hem_locks.proofs.Possible.{can_parts}
+use Rattle.hem_rows.specs.Acts.{IsThere}
+use Rattle.hem_rows.proofs.Possible.{can_parts}
 
 -- one more
 some_more : (set i : ℕ) (x : Option Message) (heads : List (Option Message)) (b : Bool) → has_bit set i ≡ b → nat_lt 0 (length (cond b ((i, x) ∷ filter (λ x. has_bit set x.0) (enumerate_from (i + 1) heads)) (filter (λ x. has_bit set x.0) (enumerate_from (i + 1) heads)))) ≡ true → (nat_lt 0 (length (filter (λ x. has_bit set x.0) (enumerate_from (i + 1) heads))) ≡ true → (k : ℕ) × (head : Option Message) × (has_bit set ((i + 1) + k) ≡ true) × (slice_get heads k ≡ Some head)) → (k : ℕ) × (head : Option Message) × (has_bit set (i + k) ≡ true) × (slice_get (x ∷ heads) k ≡ Some head)

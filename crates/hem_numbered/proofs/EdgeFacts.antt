@@ -18,9 +18,9 @@ use Rattle.hem_system.specs.declared.lane.Lane.TheVariants.{UpRequests, UpRespon
 use Rattle.hem_system.specs.State.{Cell, Line, list_of, list_at}
 use Rattle.hem_system.proofs.Kids.{child_at}
 use Rattle.hem_system.proofs.Takers.{parent_is}
-use Rattle.hem_locks.specs.Acts.{is_down_request, is_down_response}
+use Rattle.hem_rows.specs.Acts.{is_down_request, is_down_response}
 use Rattle.hem_locks.specs.Edges.{count, is_kid, for_kid, for_parent, awaits, held, responses_first, LocksHold}
-use Rattle.hem_shape.specs.Picture.{child, processor}
+use Rattle.hem_shape.specs.Progress.{child, processor}
 use Rattle.hem_shape.proofs.Spots.{and_both}
 use Rattle.hem_numbered.specs.Numbers.{asker_of, uplock_at, downlock_at}
 use Rattle.hem_numbered.proofs.LineSteps.{child_within}

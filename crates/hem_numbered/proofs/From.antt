@@ -24,13 +24,13 @@ use Rattle.hem_system.specs.declared.lane.Lane.{Lane}
 use Rattle.hem_system.specs.declared.lane.Lane.TheVariants.{UpRequests, UpResponses, Down, Requests}
 use Rattle.hem_system.specs.State.{Line, list_at, head_at, takes, is_own_child, place_of_me, request_head}
 use Rattle.hem_system.proofs.Kids.{child_at}
-use Rattle.hem_locks.specs.Acts.{IsThere, is_down_request, is_down_response}
+use Rattle.hem_rows.specs.Acts.{IsThere, is_down_request, is_down_response}
 use Rattle.hem_locks.specs.Edges.{count, for_kid, for_parent, awaits}
-use Rattle.hem_shape.specs.Picture.{Asker, child, processor, parent, itself, IsBlank}
+use Rattle.hem_shape.specs.Progress.{Asker, child, processor, parent, itself, IsBlank}
 use Rattle.hem_shape.specs.Move.{Taking, request, parent_answer, child_answers, CanTake}
 use Rattle.hem_shape.proofs.Subtrees.{child_parent}
 use Rattle.hem_shape.proofs.Spots.{true_false}
-use Rattle.hem_numbered.specs.Numbers.{Numbers, carries, is_any, asker_of, uplock_at, downlock_at, picture_of, AreNumbers}
+use Rattle.hem_numbered.specs.Numbers.{Numbers, carries, is_any, asker_of, uplock_at, downlock_at, progress_of, AreNumbers}
 use Rattle.hem_numbered.specs.Bounds.{AreBounded}
 use Rattle.hem_numbered.specs.Firings.{HasNumber}
 use Rattle.hem_numbered.proofs.Carried.{carries_first, carries_none, carries_some, count_any}
@@ -40,9 +40,9 @@ use Rattle.hem_numbered.proofs.ToRequester.{within, response_no_request, request
 
 -- what a firing takes can be taken, and leaves its lists so, as its transaction sees it
 pub record TakesFor (p : Protocol) (tree : Tree) (f : Firing) (outs : Outs) (line : Line) (numbers : Numbers) (is_new : ℕ → Bool) (n : ℕ) (asker : Asker) (takes : Taking) : Type 0 where
-  pub can : CanTake tree f.object.0 asker takes (picture_of p tree line numbers n)
+  pub can : CanTake tree f.object.0 asker takes (progress_of p tree line numbers n)
   pub lists : TakesAs p tree f outs line numbers n asker takes
-  pub begins : (is_new n ≡ true) ⊎ (IsBlank (picture_of p tree line numbers n) → ⊥)
+  pub begins : (is_new n ≡ true) ⊎ (IsBlank (progress_of p tree line numbers n) → ⊥)
 
 -- a firing that takes nothing that a firing sent has a new number
 starts : (tree : Tree) (f : Firing) (outs : Outs) (lists : ℕ → Lane → List ℕ) (is_new : ℕ → Bool) (n : ℕ) → HasNumber tree f outs lists is_new n → ((k : ℕ) → takes tree f outs k UpRequests ≡ false) → outs.taken_parent ≡ false → outs.taken_kids ≡ nobody → is_new n ≡ true
@@ -56,7 +56,7 @@ starts tree f outs lists is_new n number me above kids = number.start none
     none k _ other = refl
 
 -- and begins a transaction
-begins : (p : Protocol) (tree : Tree) (f : Firing) (outs : Outs) (line : Line) (numbers : Numbers) (is_new : ℕ → Bool) (n : ℕ) → AreNumbers p tree line numbers is_new → HasNumber tree f outs numbers.lists is_new n → ((k : ℕ) → takes tree f outs k UpRequests ≡ false) → outs.taken_parent ≡ false → outs.taken_kids ≡ nobody → IsBlank (picture_of p tree line numbers n)
+begins : (p : Protocol) (tree : Tree) (f : Firing) (outs : Outs) (line : Line) (numbers : Numbers) (is_new : ℕ → Bool) (n : ℕ) → AreNumbers p tree line numbers is_new → HasNumber tree f outs numbers.lists is_new n → ((k : ℕ) → takes tree f outs k UpRequests ≡ false) → outs.taken_parent ≡ false → outs.taken_kids ≡ nobody → IsBlank (progress_of p tree line numbers n)
 begins p tree f outs line numbers is_new n known number me above kids = known.fresh n (starts tree f outs numbers.lists is_new n number me above kids)
 
 -- nothing

@@ -9,7 +9,7 @@ use Rattle.hem_object.specs.declared.state.Lock.{Lock}
 use Rattle.hem_tree.specs.Tree.{Tree, children_of, is_child, place_among}
 use Rattle.hem_fire.specs.View.{asker, kid_asker, requester}
 use Rattle.hem_system.proofs.Kids.{at_child}
-use Rattle.hem_shape.specs.Picture.{Asker, child, processor, parent, itself}
+use Rattle.hem_shape.specs.Progress.{Asker, child, processor, parent, itself}
 use Rattle.hem_numbered.specs.Numbers.{held_for, asker_of}
 use Rattle.hem_numbered.specs.Bounds.{for_kid, for_parent}
 

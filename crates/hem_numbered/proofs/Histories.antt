@@ -18,20 +18,21 @@ use Rattle.hem_system.specs.declared.lane.Lane.TheVariants.{Requests}
 use Rattle.hem_system.specs.State.{State, Line, Effect, takes, reaches, fire, line_after}
 use Rattle.hem_system.proofs.Sets.{get_set_here, get_set_other}
 use Rattle.hem_trace.specs.History.{Event}
-use Rattle.hem_trace.specs.Order.{Entry, entries_in, is_upward, is_upward_template}
-use Rattle.hem_locks.specs.Acted.{AllHaveTemplates}
+use Rattle.hem_trace.specs.Order.{Entry, entries_in, is_upward}
+use Rattle.hem_template.specs.Waiting.{is_upward_template}
+use Rattle.hem_rows.specs.Rows.{AllHaveTemplates}
 use Rattle.hem_locks.proofs.States.{IsMade, fires-keeps}
-use Rattle.hem_shape.specs.Picture.{IsBlank, set_at}
-use Rattle.hem_shape.specs.Move.{picture_after}
+use Rattle.hem_shape.specs.Progress.{IsBlank, set_at}
+use Rattle.hem_shape.specs.Move.{progress_after}
 use Rattle.hem_shape.specs.Shape.{is_asking_up}
-use Rattle.hem_shape.specs.Story.{Made, HasForm, HasStory, made_by}
+use Rattle.hem_shape.specs.Phases.{Made, HasForm, HasPhases, made_by}
 use Rattle.hem_shape.proofs.Spots.{same_or_other, set_here, set_there, and_both, not_false}
-use Rattle.hem_shape.proofs.Stories.{story_goes_on, form_of}
-use Rattle.hem_numbered.specs.Numbers.{Numbers, numbers_after, picture_of, AreNumbers}
+use Rattle.hem_shape.proofs.Phases.{phases_go_on, form_of}
+use Rattle.hem_numbered.specs.Numbers.{Numbers, numbers_after, progress_of, AreNumbers}
 use Rattle.hem_numbered.specs.Firings.{HasNumber}
 use Rattle.hem_numbered.specs.Histories.{made_of, made_in, AreKnown}
-use Rattle.hem_numbered.proofs.Others.{picture_other}
-use Rattle.hem_numbered.proofs.Moves.{IsMove, move_of, picture_moved}
+use Rattle.hem_numbered.proofs.Others.{progress_other}
+use Rattle.hem_numbered.proofs.Moves.{IsMove, move_of, progress_moved}
 use Rattle.hem_numbered.proofs.Templates.{is_move}
 use Rattle.hem_numbered.proofs.Kept.{is_numbered, numbers_kept}
 use Rattle.hem_numbered.proofs.LineSteps.{FiringOf, firing_of}
@@ -112,8 +113,8 @@ pub record IsStep (p : Protocol) (tree : Tree) (owner : ℕ → ℕ) (line : Lin
   pub move : IsMove p tree f of.t of.before e.after e.outs line (all f.line.0) first n
   pub now : Numbers
   pub now_is : now ≡ numbers_after tree f e.outs of.before n of.t (all f.line.0)
-  pub moved : picture_of p tree (line_after tree f e line) now n ≡ picture_after tree (move_of move) of.t (picture_of p tree line (all f.line.0) n)
-  pub others : (y : ℕ) → y ≢ n → picture_of p tree (line_after tree f e line) now y ≡ picture_of p tree line (all f.line.0) y
+  pub moved : progress_of p tree (line_after tree f e line) now n ≡ progress_after tree (move_of move) of.t (progress_of p tree line (all f.line.0) n)
+  pub others : (y : ℕ) → y ≢ n → progress_of p tree (line_after tree f e line) now y ≡ progress_of p tree line (all f.line.0) y
   pub lists : (k : ℕ) (lane : Lane) → now.lists k lane ≡ drop (cond (takes tree f e.outs k lane) 1 0) ((all f.line.0).lists k lane) ++ cond (reaches tree f e.outs.to k lane) (n ∷ []) []
   pub known : AreKnown p tree owner mid (set_at f.line.0 now all) (λ y. is_new y && not (y == n)) (past ++ entry_by p tree place n f e ∷ [])
   pub takes : (k : ℕ) (lane : Lane) → lane ≢ Requests → takes tree f e.outs k lane ≡ true → slice_get ((all f.line.0).lists k lane) 0 ≡ Some n
@@ -133,15 +134,15 @@ known_step p tree owner s mid all is_new past f place n first lawful templates f
     let own = is_numbered p tree f of.t of.kind of.rule of.before it.effect.after it.effect.outs it.line new (all l) is_new n of.is before loose in
     let now = numbers_after tree f it.effect.outs of.before n of.t (all l) in
     let owned : owner n ≡ l = ⊎_elim (λ is. (news n is).1) (λ begun. known.owned l n it.line it.there begun) move.taking.begins in
-    let other : (y : ℕ) → y ≢ n → picture_of p tree new now y ≡ picture_of p tree it.line (all l) y =
-    (λ y differs. picture_other p tree f it.effect.outs of.before it.effect.after it.line new (all l) n of.t y of.is.leads before.lists own differs) in
-    let moved : picture_of p tree new now n ≡ picture_after tree (move_of move) of.t (picture_of p tree it.line (all l) n) =
-    picture_moved p tree f of.t of.before it.effect.after it.effect.outs it.line new (all l) first n of.is.leads before.lists move in
+    let other : (y : ℕ) → y ≢ n → progress_of p tree new now y ≡ progress_of p tree it.line (all l) y =
+    (λ y differs. progress_other p tree f it.effect.outs of.before it.effect.after it.line new (all l) n of.t y of.is.leads before.lists own differs) in
+    let moved : progress_of p tree new now n ≡ progress_after tree (move_of move) of.t (progress_of p tree it.line (all l) n) =
+    progress_moved p tree f of.t of.before it.effect.after it.effect.outs it.line new (all l) first n of.is.leads before.lists move in
     let made_is : made_of x ≡ made_by (move_of move) of.t = ap (λ up. let m : Made = record { object = f.object.0; upward = up } in m) (upward_is p tree f of.kind of.rule of.t of.is.kind_is of.named of.template) in
-    let story : HasStory tree (picture_of p tree new now n) (made_in n (past ++ x ∷ [])) =
-    subst (λ at. HasStory tree at (made_in n (past ++ x ∷ []))) (sym moved)
-    (subst (λ made. HasStory tree (picture_after tree (move_of move) of.t (picture_of p tree it.line (all l) n)) made) (sym (made_own n past x refl ∙ ap (λ m. made_in n past ++ m ∷ []) made_is))
-    (story_goes_on tree (move_of move) of.t (picture_of p tree it.line (all l) n) (made_in n past) lawful (before.shapes n) (record { named = move.named; takes = move.taking.can; gives = move.can_give }) (known.stories l n it.line it.there owned))) in
+    let phases : HasPhases tree (progress_of p tree new now n) (made_in n (past ++ x ∷ [])) =
+    subst (λ at. HasPhases tree at (made_in n (past ++ x ∷ []))) (sym moved)
+    (subst (λ made. HasPhases tree (progress_after tree (move_of move) of.t (progress_of p tree it.line (all l) n)) made) (sym (made_own n past x refl ∙ ap (λ m. made_in n past ++ m ∷ []) made_is))
+    (phases_go_on tree (move_of move) of.t (progress_of p tree it.line (all l) n) (made_in n past) lawful (before.shapes n) (record { named = move.named; takes = move.taking.can; gives = move.can_give }) (known.phases l n it.line it.there owned))) in
     record {
       of = of;
       move = move;
@@ -155,17 +156,17 @@ known_step p tree owner s mid all is_new past f place n first lawful templates f
         numbers = by_line p tree s mid f it all now (λ l line numbers. AreNumbers p tree line numbers (λ y. is_new y && not (y == n)))
             (numbers_kept p tree f of.t of.kind of.rule of.before it.effect.after it.effect.outs it.line new (all l) is_new n of.is before loose)
             (λ l line differs at. fewer_new p tree line (all l) is_new (λ y. is_new y && not (y == n)) (λ y is. (and_both (is_new y) (not (y == n)) is).0) (known.numbers l line at));
-        owned = λ l' y line at. by_line p tree s mid f it all now (λ l line numbers. (IsBlank (picture_of p tree line numbers y) → ⊥) → owner y ≡ l)
+        owned = λ l' y line at. by_line p tree s mid f it all now (λ l line numbers. (IsBlank (progress_of p tree line numbers y) → ⊥) → owner y ≡ l)
             (λ begun. ⊎_elim (λ same. ap owner same ∙ owned) (λ differs. known.owned l y it.line it.there (λ blank. begun (subst (λ at. IsBlank at) (sym (other y differs)) blank))) (same_or_other y n))
             (λ l line differs at begun. known.owned l y line at begun) l' line at;
-        stories = λ l' y line at. by_line p tree s mid f it all now (λ l line numbers. owner y ≡ l → HasStory tree (picture_of p tree line numbers y) (made_in y (past ++ x ∷ [])))
+        phases = λ l' y line at. by_line p tree s mid f it all now (λ l line numbers. owner y ≡ l → HasPhases tree (progress_of p tree line numbers y) (made_in y (past ++ x ∷ [])))
             (λ here. ⊎_elim
-            (λ same. subst (λ y. HasStory tree (picture_of p tree new now y) (made_in y (past ++ x ∷ []))) (sym same) story)
-            (λ differs. subst (λ at. HasStory tree at (made_in y (past ++ x ∷ []))) (sym (other y differs)) (subst (λ made. HasStory tree (picture_of p tree it.line (all l) y) made) (sym (made_other y past x (λ same. differs (sym same)))) (known.stories l y it.line it.there here)))
+            (λ same. subst (λ y. HasPhases tree (progress_of p tree new now y) (made_in y (past ++ x ∷ []))) (sym same) phases)
+            (λ differs. subst (λ at. HasPhases tree at (made_in y (past ++ x ∷ []))) (sym (other y differs)) (subst (λ made. HasPhases tree (progress_of p tree it.line (all l) y) made) (sym (made_other y past x (λ same. differs (sym same)))) (known.phases l y it.line it.there here)))
             (same_or_other y n))
-            (λ l' line differs at here. subst (λ made. HasStory tree (picture_of p tree line (all l') y) made) (sym (made_other y past x (λ same. differs (sym here ∙ ap owner (sym same) ∙ owned)))) (known.stories l' y line at here)) l' line at;
+            (λ l' line differs at here. subst (λ made. HasPhases tree (progress_of p tree line (all l') y) made) (sym (made_other y past x (λ same. differs (sym here ∙ ap owner (sym same) ∙ owned)))) (known.phases l' y line at here)) l' line at;
         forms = λ y. ⊎_elim
-            (λ same. subst (λ y. HasForm tree (made_in y (past ++ x ∷ []))) (sym same) (form_of tree (picture_of p tree new now n) (made_in n (past ++ x ∷ [])) story))
+            (λ same. subst (λ y. HasForm tree (made_in y (past ++ x ∷ []))) (sym same) (form_of tree (progress_of p tree new now n) (made_in n (past ++ x ∷ [])) phases))
             (λ differs. subst (λ made. HasForm tree made) (sym (made_other y past x (λ same. differs (sym same)))) (known.forms y))
             (same_or_other y n);
       };

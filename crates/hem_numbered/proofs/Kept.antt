@@ -9,7 +9,7 @@ use Rattle.hem_template.specs.declared.template_name.TemplateName.{TemplateName}
 use Rattle.hem_object.specs.declared.state.Lock.{Lock}
 use Rattle.hem_syntax.specs.Protocol.{Protocol}
 use Rattle.hem_object.specs.Local.{Local}
-use Rattle.hem_template.specs.Template as template
+use Rattle.hem_template.specs.declared.row.Taking as row
 use Rattle.hem_template.specs.Template.{row_of}
 use Rattle.hem_template.specs.declared.row.Taking.TheVariants.{NothingTaken, FromRequester, ParentRequest, ParentResponse, FromKids}
 use Rattle.hem_tree.specs.Tree.{Tree, is_child, place_among}
@@ -19,25 +19,25 @@ use Rattle.hem_system.specs.declared.lane.Lane.{Lane}
 use Rattle.hem_system.specs.declared.lane.Lane.TheVariants.{UpRequests, UpResponses, Down, Requests, Answers}
 use Rattle.hem_system.specs.State.{Line, list_at, head_at, takes, reaches, heads_of}
 use Rattle.hem_system.proofs.Takers.{and_left}
-use Rattle.hem_locks.specs.Acts.{takes_kids, AreHeads, IsThere}
-use Rattle.hem_shape.specs.Picture.{Asker, IsBlank}
+use Rattle.hem_rows.specs.Acts.{takes_kids, AreHeads, IsThere}
+use Rattle.hem_shape.specs.Progress.{Asker, IsBlank}
 use Rattle.hem_shape.specs.Move.{Taking, request, parent_answer, child_answers, Giving, answer, ask_up, ask_down, CanTake}
 use Rattle.hem_shape.specs.Shape.{HasShape}
 use Rattle.hem_shape.proofs.Subtrees.{child_parent}
 use Rattle.hem_shape.proofs.Spots.{same_or_other, true_false, and_both, not_true}
 use Rattle.hem_shape.proofs.KeepsShape.{shape_kept}
-use Rattle.hem_numbered.specs.Numbers.{Numbers, numbers_after, carries, is_any, picture_of, uplock_at, downlock_at, AreNumbers}
+use Rattle.hem_numbered.specs.Numbers.{Numbers, numbers_after, carries, is_any, progress_of, uplock_at, downlock_at, AreNumbers}
 use Rattle.hem_numbered.specs.Firings.{HasNumber, IsFiring, ChangesOnce, IsNumbered}
 use Rattle.hem_numbered.proofs.Carried.{carries_first, length_after}
 use Rattle.hem_numbered.proofs.Held.{held_number}
 use Rattle.hem_numbered.proofs.TakesAs.{no_children}
 use Rattle.hem_numbered.proofs.Awaited.{each_there}
-use Rattle.hem_numbered.proofs.Others.{picture_other}
-use Rattle.hem_numbered.proofs.Moves.{UpAs, DownAs, move_of, picture_moved}
+use Rattle.hem_numbered.proofs.Others.{progress_other}
+use Rattle.hem_numbered.proofs.Moves.{UpAs, DownAs, move_of, progress_moved}
 use Rattle.hem_numbered.proofs.Templates.{is_move}
 
 -- a child whose answer is taken has sent one
-answer_there : (p : Protocol) (tree : Tree) (f : Firing) (before : Local) (outs : Outs) (line : Line) (taking : template.Taking) → outs.taken_kids ≡ takes_kids taking before → AreHeads p taking before (heads_of tree line f.object.0 f.me) → (k : ℕ) → takes tree f outs k UpResponses ≡ true → IsThere (head_at line k UpResponses)
+answer_there : (p : Protocol) (tree : Tree) (f : Firing) (before : Local) (outs : Outs) (line : Line) (taking : row.Taking) → outs.taken_kids ≡ takes_kids taking before → AreHeads p taking before (heads_of tree line f.object.0 f.me) → (k : ℕ) → takes tree f outs k UpResponses ≡ true → IsThere (head_at line k UpResponses)
 answer_there p tree f before outs line FromKids kids there k is = each_there tree f before outs line kids there k is
 answer_there p tree f before outs line NothingTaken kids there k is = absurd (true_false is (no_children tree f outs k kids))
 answer_there p tree f before outs line FromRequester kids there k is = absurd (true_false is (no_children tree f outs k kids))
@@ -104,7 +104,7 @@ was_free : (before : Option Lock) (lock : Lock) → before ≡ Some lock → bef
 was_free before lock some none = let bad : None ≡ Some lock = sym none ∙ some in cc
 
 -- a lock that is freed has the number of the firing that frees it
-up_freed : (p : Protocol) (tree : Tree) (line : Line) (numbers : Numbers) (n o : ℕ) (a : Asker) (takes : Taking) (gives : Giving) (before after : Option Lock) (lock : Lock) → CanTake tree o a takes (picture_of p tree line numbers n) → UpAs tree o a takes gives before after → before ≡ Some lock → after ≡ None → numbers.up o ≡ n
+up_freed : (p : Protocol) (tree : Tree) (line : Line) (numbers : Numbers) (n o : ℕ) (a : Asker) (takes : Taking) (gives : Giving) (before after : Option Lock) (lock : Lock) → CanTake tree o a takes (progress_of p tree line numbers n) → UpAs tree o a takes gives before after → before ≡ Some lock → after ≡ None → numbers.up o ≡ n
 up_freed p tree line numbers n o a request answer before after lock can so some none = absurd (stays_held before after lock some none so)
 up_freed p tree line numbers n o a request ask_up before after lock can so some none = absurd (was_free before lock some so.0)
 up_freed p tree line numbers n o a request (ask_down targets) before after lock can so some none = absurd (stays_held before after lock some none so)
@@ -113,7 +113,7 @@ up_freed p tree line numbers n o a child_answers answer before after lock can so
 up_freed p tree line numbers n o a child_answers ask_up before after lock can so some none = absurd (was_free before lock some so.0)
 up_freed p tree line numbers n o a child_answers (ask_down targets) before after lock can so some none = absurd (stays_held before after lock some none so)
 
-down_freed : (p : Protocol) (tree : Tree) (line : Line) (numbers : Numbers) (n o : ℕ) (a : Asker) (takes : Taking) (gives : Giving) (before after : Option Lock) (lock : Lock) → CanTake tree o a takes (picture_of p tree line numbers n) → DownAs tree o a takes gives before after → before ≡ Some lock → after ≡ None → numbers.down o ≡ n
+down_freed : (p : Protocol) (tree : Tree) (line : Line) (numbers : Numbers) (n o : ℕ) (a : Asker) (takes : Taking) (gives : Giving) (before after : Option Lock) (lock : Lock) → CanTake tree o a takes (progress_of p tree line numbers n) → DownAs tree o a takes gives before after → before ≡ Some lock → after ≡ None → numbers.down o ≡ n
 down_freed p tree line numbers n o a request answer before after lock can so some none = absurd (stays_held before after lock some none so)
 down_freed p tree line numbers n o a request ask_up before after lock can so some none = absurd (stays_held before after lock some none so)
 down_freed p tree line numbers n o a request (ask_down targets) before after lock can so some none = absurd (was_free before lock some so.0)
@@ -142,15 +142,15 @@ pub numbers_kept : (p : Protocol) (tree : Tree) (f : Firing) (t : TemplateName) 
 numbers_kept p tree f t kind rule before after outs old new numbers is_new n c known number =
     let is = is_move p tree f t kind rule before after outs old new numbers is_new n c known number in
     let own = is_numbered p tree f t kind rule before after outs old new numbers is_new n c known number in
-    let other : (x : ℕ) → x ≢ n → picture_of p tree new (numbers_after tree f outs before n t numbers) x ≡ picture_of p tree old numbers x =
-    (λ x differs. picture_other p tree f outs before after old new numbers n t x c.leads known.lists own differs) in
+    let other : (x : ℕ) → x ≢ n → progress_of p tree new (numbers_after tree f outs before n t numbers) x ≡ progress_of p tree old numbers x =
+    (λ x differs. progress_other p tree f outs before after old new numbers n t x c.leads known.lists own differs) in
     record {
       lists = λ k lane other. subst (λ ms. length (drop (cond (takes tree f outs k lane) 1 0) (numbers.lists k lane) ++ cond (reaches tree f outs.to k lane) (n ∷ []) []) ≡ length ms) (sym (c.leads.lists k lane))
           (length_after (takes tree f outs k lane) (reaches tree f outs.to k lane) outs.message n (list_at old k lane) (numbers.lists k lane) (known.lists k lane other));
       shapes = λ x. ⊎_elim
-          (λ same. subst (λ x. HasShape tree (picture_of p tree new (numbers_after tree f outs before n t numbers) x)) (sym same)
-          (subst (λ at. HasShape tree at) (sym (picture_moved p tree f t before after outs old new numbers is_new n c.leads known.lists is))
-          (shape_kept tree (move_of is) t (picture_of p tree old numbers n) c.lawful (known.shapes n) (record { named = is.named; takes = is.taking.can; gives = is.can_give }))))
+          (λ same. subst (λ x. HasShape tree (progress_of p tree new (numbers_after tree f outs before n t numbers) x)) (sym same)
+          (subst (λ at. HasShape tree at) (sym (progress_moved p tree f t before after outs old new numbers is_new n c.leads known.lists is))
+          (shape_kept tree (move_of is) t (progress_of p tree old numbers n) c.lawful (known.shapes n) (record { named = is.named; takes = is.taking.can; gives = is.can_give }))))
           (λ differs. subst (λ at. HasShape tree at) (sym (other x differs)) (known.shapes x))
           (same_or_other x n);
       fresh = λ x both. let parts = and_both (is_new x) (not (x == n)) both in subst (λ at. IsBlank at) (sym (other x (λ same. not_same x n (not_true (x == n) parts.1) same))) (known.fresh x parts.0);

@@ -19,14 +19,14 @@ use Rattle.hem_system.specs.declared.lane.Lane.{Lane}
 use Rattle.hem_system.specs.declared.lane.Lane.TheVariants.{UpRequests, UpResponses, Down}
 use Rattle.hem_system.specs.State.{Cell, Line, Effect, local_at, list_at, list_of, heads_of, taken_heads, rule_effect, own_effect, effect_of, line_after, place_of_me}
 use Rattle.hem_system.proofs.Takers.{parent_is}
-use Rattle.hem_law.proofs.Inverted.{if_some, chosen}
+use Rattle.hem_rows.proofs.Choices.{if_some, chosen}
 use Rattle.hem_law.proofs.LineParts.{list_at-after, local_at-after}
 use Rattle.hem_law.proofs.OwnEffect.{own_effect-parts}
-use Rattle.hem_locks.specs.Acts.{is_down_request, is_down_response}
-use Rattle.hem_locks.specs.Acted.{AllHaveTemplates}
+use Rattle.hem_rows.specs.Acts.{is_down_request, is_down_response}
+use Rattle.hem_rows.specs.Rows.{AllHaveTemplates}
 use Rattle.hem_locks.specs.Edges.{count, for_kid, for_parent, awaits, held, LocksHold}
-use Rattle.hem_locks.proofs.Acts.{acts_by_template}
-use Rattle.hem_locks.proofs.Rows.{of_row}
+use Rattle.hem_rows.proofs.Acts.{acts_by_template}
+use Rattle.hem_rows.proofs.Rows.{of_row}
 use Rattle.hem_numbered.specs.Numbers.{uplock_at, downlock_at}
 use Rattle.hem_numbered.specs.Bounds.{AreBounded}
 use Rattle.hem_numbered.specs.Firings.{IsFiring}

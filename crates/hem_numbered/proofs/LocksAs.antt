@@ -3,7 +3,7 @@ use Rattle.std.proofs.Common.{◌≡◌, ◌≢◌, ℕ, true, cond, refl, sym, 
 use Rattle.std.specs.Prelude.{◌==◌}
 use Rattle.hem_object.specs.declared.state.Lock.{Lock}
 use Rattle.hem_tree.specs.Tree.{Tree}
-use Rattle.hem_shape.specs.Picture.{Asker, set_at}
+use Rattle.hem_shape.specs.Progress.{Asker, set_at}
 use Rattle.hem_shape.proofs.Spots.{same_or_other, set_here, set_there}
 use Rattle.hem_numbered.specs.Numbers.{lock_number, held_for, asker_of}
 

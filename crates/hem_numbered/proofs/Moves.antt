@@ -12,13 +12,13 @@ use Rattle.hem_fire.specs.declared.outs.Outs.{Outs}
 use Rattle.hem_system.specs.declared.lane.Lane.{Lane}
 use Rattle.hem_system.specs.declared.lane.Lane.TheVariants.{UpRequests, UpResponses, Down, Requests}
 use Rattle.hem_system.specs.State.{Line, list_at, takes, reaches, list_after}
-use Rattle.hem_locks.specs.Acts.{is_down_request, is_down_response}
-use Rattle.hem_shape.specs.Picture.{Asker, child, processor, parent, itself, Picture, set_at}
-use Rattle.hem_shape.specs.Move.{Taking, request, parent_answer, child_answers, Giving, answer, ask_up, ask_down, Move, template_name, taken, recorded, given, picture_after, CanGive}
+use Rattle.hem_rows.specs.Acts.{is_down_request, is_down_response}
+use Rattle.hem_shape.specs.Progress.{Asker, child, processor, parent, itself, Progress, set_at}
+use Rattle.hem_shape.specs.Move.{Taking, request, parent_answer, child_answers, Giving, answer, ask_up, ask_down, Move, template_name, taken, recorded, given, progress_after, CanGive}
 use Rattle.hem_shape.proofs.Spots.{same_or_other, set_here, set_there}
-use Rattle.hem_numbered.specs.Numbers.{Numbers, numbers_after, carries, is_any, held_for, asker_of, uplock_at, downlock_at, picture_of}
+use Rattle.hem_numbered.specs.Numbers.{Numbers, numbers_after, carries, is_any, held_for, asker_of, uplock_at, downlock_at, progress_of}
 use Rattle.hem_numbered.specs.Firings.{Leads}
-use Rattle.hem_numbered.proofs.Alike.{same_picture}
+use Rattle.hem_numbered.proofs.Alike.{same_progress}
 use Rattle.hem_numbered.proofs.Carried.{carries_after}
 use Rattle.hem_numbered.proofs.TakesAs.{left}
 use Rattle.hem_numbered.proofs.GivesAs.{GivesAs}
@@ -53,32 +53,32 @@ abbrev pub move_of : {p : Protocol} {tree : Tree} {f : Firing} {t : TemplateName
 move_of {f = f} is = record { object = f.object.0; asker = is.asker; takes = is.takes; gives = is.gives }
 
 -- an answer changes no lock, and a request that is taken neither
-pub answer_up : (o : ℕ) (asker : Asker) (at : Picture) (k : ℕ) → (given o asker answer at).up k ≡ at.up k
+pub answer_up : (o : ℕ) (asker : Asker) (at : Progress) (k : ℕ) → (given o asker answer at).up k ≡ at.up k
 answer_up o (child c) at k = refl
 answer_up o processor at k = refl
 answer_up o parent at k = refl
 answer_up o itself at k = refl
 
-answer_down : (o : ℕ) (asker : Asker) (at : Picture) (k : ℕ) → (given o asker answer at).down k ≡ at.down k
+answer_down : (o : ℕ) (asker : Asker) (at : Progress) (k : ℕ) → (given o asker answer at).down k ≡ at.down k
 answer_down o (child c) at k = refl
 answer_down o processor at k = refl
 answer_down o parent at k = refl
 answer_down o itself at k = refl
 
-pub request_up : (tree : Tree) (o : ℕ) (asker : Asker) (at : Picture) (k : ℕ) → (taken tree o asker request at).up k ≡ at.up k
+pub request_up : (tree : Tree) (o : ℕ) (asker : Asker) (at : Progress) (k : ℕ) → (taken tree o asker request at).up k ≡ at.up k
 request_up tree o (child c) at k = refl
 request_up tree o processor at k = refl
 request_up tree o parent at k = refl
 request_up tree o itself at k = refl
 
-request_down : (tree : Tree) (o : ℕ) (asker : Asker) (at : Picture) (k : ℕ) → (taken tree o asker request at).down k ≡ at.down k
+request_down : (tree : Tree) (o : ℕ) (asker : Asker) (at : Progress) (k : ℕ) → (taken tree o asker request at).down k ≡ at.down k
 request_down tree o (child c) at k = refl
 request_down tree o processor at k = refl
 request_down tree o parent at k = refl
 request_down tree o itself at k = refl
 
 -- what is fired is recorded, whatever is taken and given
-given_fired : (o : ℕ) (asker : Asker) (gives : Giving) (at : Picture) (k : ℕ) → (given o asker gives at).fired k ≡ at.fired k
+given_fired : (o : ℕ) (asker : Asker) (gives : Giving) (at : Progress) (k : ℕ) → (given o asker gives at).fired k ≡ at.fired k
 given_fired o (child c) answer at k = refl
 given_fired o processor answer at k = refl
 given_fired o parent answer at k = refl
@@ -86,7 +86,7 @@ given_fired o itself answer at k = refl
 given_fired o asker ask_up at k = refl
 given_fired o asker (ask_down targets) at k = refl
 
-taken_fired : (tree : Tree) (o : ℕ) (asker : Asker) (takes : Taking) (at : Picture) (k : ℕ) → (taken tree o asker takes at).fired k ≡ at.fired k
+taken_fired : (tree : Tree) (o : ℕ) (asker : Asker) (takes : Taking) (at : Progress) (k : ℕ) → (taken tree o asker takes at).fired k ≡ at.fired k
 taken_fired tree o (child c) request at k = refl
 taken_fired tree o processor request at k = refl
 taken_fired tree o parent request at k = refl
@@ -99,7 +99,7 @@ set_alike : {A : Type 0} (o : ℕ) (v : A) (f g : ℕ → A) (k : ℕ) → ((j :
 set_alike o v f g k same = ⊎_elim (λ here. set_here o v f k here ∙ sym (set_here o v g k here)) (λ there. set_there o v f k there ∙ same k there ∙ sym (set_there o v g k there)) (same_or_other k o)
 
 -- the uplocks after a firing
-up_moved : (tree : Tree) (o n : ℕ) (t : TemplateName) (asker : Asker) (takes : Taking) (gives : Giving) (at : Picture) (before after : Option Lock) (numbers : ℕ → ℕ) (old new : ℕ → Option Lock) → LockChanges o before after old new → ((k : ℕ) → held_for tree k n (numbers k) (old k) ≡ at.up k) → UpAs tree o asker takes gives before after → (k : ℕ) → locks_after tree o n before numbers new k ≡ (given o asker gives (recorded o t (taken tree o asker takes at))).up k
+up_moved : (tree : Tree) (o n : ℕ) (t : TemplateName) (asker : Asker) (takes : Taking) (gives : Giving) (at : Progress) (before after : Option Lock) (numbers : ℕ → ℕ) (old new : ℕ → Option Lock) → LockChanges o before after old new → ((k : ℕ) → held_for tree k n (numbers k) (old k) ≡ at.up k) → UpAs tree o asker takes gives before after → (k : ℕ) → locks_after tree o n before numbers new k ≡ (given o asker gives (recorded o t (taken tree o asker takes at))).up k
 up_moved tree o n t asker request answer at before after numbers old new changes was so k = locks_stay tree o n before after numbers old new changes so k ∙ was k ∙ sym (answer_up o asker (recorded o t (taken tree o asker request at)) k ∙ request_up tree o asker at k)
 up_moved tree o n t asker request ask_up at before after numbers old new changes was so k =
     locks_taken tree o n before after numbers old new asker so.1 changes so.0 so.2 so.3 k ∙ set_alike o (Some asker) (λ k. held_for tree k n (numbers k) (old k)) (taken tree o asker request at).up k (λ j other. was j ∙ sym (request_up tree o asker at j))
@@ -116,7 +116,7 @@ up_moved tree o n t asker child_answers ask_up at before after numbers old new c
 up_moved tree o n t asker child_answers (ask_down targets) at before after numbers old new changes was so k = locks_stay tree o n before after numbers old new changes so k ∙ was k
 
 -- the downlocks after a firing
-down_moved : (tree : Tree) (o n : ℕ) (t : TemplateName) (asker : Asker) (takes : Taking) (gives : Giving) (at : Picture) (before after : Option Lock) (numbers : ℕ → ℕ) (old new : ℕ → Option Lock) → LockChanges o before after old new → ((k : ℕ) → held_for tree k n (numbers k) (old k) ≡ at.down k) → DownAs tree o asker takes gives before after → (k : ℕ) → locks_after tree o n before numbers new k ≡ (given o asker gives (recorded o t (taken tree o asker takes at))).down k
+down_moved : (tree : Tree) (o n : ℕ) (t : TemplateName) (asker : Asker) (takes : Taking) (gives : Giving) (at : Progress) (before after : Option Lock) (numbers : ℕ → ℕ) (old new : ℕ → Option Lock) → LockChanges o before after old new → ((k : ℕ) → held_for tree k n (numbers k) (old k) ≡ at.down k) → DownAs tree o asker takes gives before after → (k : ℕ) → locks_after tree o n before numbers new k ≡ (given o asker gives (recorded o t (taken tree o asker takes at))).down k
 down_moved tree o n t asker request answer at before after numbers old new changes was so k = locks_stay tree o n before after numbers old new changes so k ∙ was k ∙ sym (answer_down o asker (recorded o t (taken tree o asker request at)) k ∙ request_down tree o asker at k)
 down_moved tree o n t asker request ask_up at before after numbers old new changes was so k = locks_stay tree o n before after numbers old new changes so k ∙ was k ∙ sym (request_down tree o asker at k)
 down_moved tree o n t asker request (ask_down targets) at before after numbers old new changes was so k =
@@ -165,12 +165,12 @@ and_any : (r : Bool) → (r && true) ≡ r
 and_any true = refl
 and_any false = refl
 
-pub picture_moved : (p : Protocol) (tree : Tree) (f : Firing) (t : TemplateName) (before after : Local) (outs : Outs) (old new : Line) (numbers : Numbers) (is_new : ℕ → Bool) (n : ℕ) → Leads tree f outs before after old new → ((k : ℕ) (lane : Lane) → lane ≢ Requests → length (numbers.lists k lane) ≡ length (list_at old k lane)) → (is : IsMove p tree f t before after outs old numbers is_new n) → picture_of p tree new (numbers_after tree f outs before n t numbers) n ≡ picture_after tree (move_of is) t (picture_of p tree old numbers n)
-picture_moved p tree f t before after outs old new numbers is_new n leads same is =
+pub progress_moved : (p : Protocol) (tree : Tree) (f : Firing) (t : TemplateName) (before after : Local) (outs : Outs) (old new : Line) (numbers : Numbers) (is_new : ℕ → Bool) (n : ℕ) → Leads tree f outs before after old new → ((k : ℕ) (lane : Lane) → lane ≢ Requests → length (numbers.lists k lane) ≡ length (list_at old k lane)) → (is : IsMove p tree f t before after outs old numbers is_new n) → progress_of p tree new (numbers_after tree f outs before n t numbers) n ≡ progress_after tree (move_of is) t (progress_of p tree old numbers n)
+progress_moved p tree f t before after outs old new numbers is_new n leads same is =
     let o = f.object.0 in
-    let at = picture_of p tree old numbers n in
+    let at = progress_of p tree old numbers n in
     let mid = recorded o t (taken tree o is.asker is.takes at) in
-    same_picture (picture_of p tree new (numbers_after tree f outs before n t numbers) n) (picture_after tree (move_of is) t at)
+    same_progress (progress_of p tree new (numbers_after tree f outs before n t numbers) n) (progress_after tree (move_of is) t at)
     (λ k. list_moved is_any tree f outs old new numbers n k UpRequests (reaches tree f outs.to k UpRequests) (leads.lists k UpRequests) (same k UpRequests (λ bad. cc)) (and_any (reaches tree f outs.to k UpRequests))
     ∙ ap (λ b. b || reaches tree f outs.to k UpRequests) (is.taking.lists.asks_up k) ∙ is.giving.asks_up mid k)
     (λ k. list_moved is_any tree f outs old new numbers n k UpResponses (reaches tree f outs.to k UpResponses) (leads.lists k UpResponses) (same k UpResponses (λ bad. cc)) (and_any (reaches tree f outs.to k UpResponses))

@@ -12,8 +12,8 @@ use Rattle.hem_tree.specs.Tree.{Tree, parent_of}
 use Rattle.hem_fire.specs.declared.outs.Outs.{Outs}
 use Rattle.hem_system.specs.declared.lane.Lane.TheVariants.{Down}
 use Rattle.hem_system.specs.State.{Line, head_at}
-use Rattle.hem_locks.specs.Acts.{is_down_request}
-use Rattle.hem_shape.specs.Picture.{Asker, child, processor, parent, itself}
+use Rattle.hem_rows.specs.Acts.{is_down_request}
+use Rattle.hem_shape.specs.Progress.{Asker, child, processor, parent, itself}
 use Rattle.hem_shape.specs.Move.{request, parent_answer, Giving, answer, ask_up, ask_down, template_name}
 use Rattle.hem_numbered.specs.Firings.{IsFiring}
 use Rattle.hem_numbered.proofs.From.{parent_above}

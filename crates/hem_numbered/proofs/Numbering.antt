@@ -9,7 +9,7 @@ use Rattle.hem_base.specs.declared.ids.ObjectId.{ObjectId}
 use Rattle.hem_base.specs.declared.ids.KidSet.{KidSet}
 use Rattle.hem_syntax.specs.Protocol.{Protocol}
 use Rattle.hem_object.specs.Local.{Local, nobody}
-use Rattle.hem_template.specs.Template as template
+use Rattle.hem_template.specs.declared.row.Taking as row
 use Rattle.hem_template.specs.declared.row.Taking.TheVariants.{NothingTaken, FromRequester, ParentRequest, ParentResponse, FromKids}
 use Rattle.hem_tree.specs.Tree.{Tree, children_of, is_child, place_among}
 use Rattle.hem_system.specs.declared.lane.Lane.{Lane}
@@ -19,7 +19,7 @@ use Rattle.hem_system.proofs.Kids.{child_at, at_child}
 use Rattle.hem_system.proofs.Takers.{and_left, and_right}
 use Rattle.hem_trace.specs.History.{Event, Channel, channels_taken}
 use Rattle.hem_trace.specs.Tags.{Tags, number_at}
-use Rattle.hem_locks.specs.Acts.{takes_me, takes_parent, takes_kids, AreHeads}
+use Rattle.hem_rows.specs.Acts.{takes_me, takes_parent, takes_kids, AreHeads}
 use Rattle.hem_shape.proofs.Spots.{true_false}
 use Rattle.hem_numbered.specs.Firings.{HasNumber}
 use Rattle.hem_numbered.proofs.Awaited.{each_there}
@@ -95,7 +95,7 @@ first_map : {A B : Type 0} (f : A → B) (xs : List A) (x : A) → slice_get xs 
 first_map f [] x at = cc
 first_map f (y ∷ xs) x at = let same : y ≡ x = (let there : Some y ≡ Some x = at in cc) in ap (λ y. Some (f y)) same
 
-pub has_number : (p : Protocol) (tree : Tree) (e : Event) (line : Line) (before : Local) (tags : Tags) (place : ℕ) (taking : template.Taking) (is_new : ℕ → Bool) → e.outs.taken_request ≡ takes_me taking → e.outs.taken_parent ≡ takes_parent taking → e.outs.taken_kids ≡ takes_kids taking before → AreHeads p taking before (heads_of tree line e.firing.object.0 e.firing.me) → is_own_child tree e.firing.object.0 e.firing.me ≡ true → ((k : ℕ) (lane : Lane) → lane ≢ Requests → length (line_tags tags e.firing.line.0 k lane) ≡ length (list_at line k lane)) → (taking ≡ FromKids → (k : ℕ) × (takes tree e.firing e.outs k UpResponses ≡ true)) → is_new place ≡ true → HasNumber tree e.firing e.outs (line_tags tags e.firing.line.0) is_new (number_at tree tags place e)
+pub has_number : (p : Protocol) (tree : Tree) (e : Event) (line : Line) (before : Local) (tags : Tags) (place : ℕ) (taking : row.Taking) (is_new : ℕ → Bool) → e.outs.taken_request ≡ takes_me taking → e.outs.taken_parent ≡ takes_parent taking → e.outs.taken_kids ≡ takes_kids taking before → AreHeads p taking before (heads_of tree line e.firing.object.0 e.firing.me) → is_own_child tree e.firing.object.0 e.firing.me ≡ true → ((k : ℕ) (lane : Lane) → lane ≢ Requests → length (line_tags tags e.firing.line.0 k lane) ≡ length (list_at line k lane)) → (taking ≡ FromKids → (k : ℕ) × (takes tree e.firing e.outs k UpResponses ≡ true)) → is_new place ≡ true → HasNumber tree e.firing e.outs (line_tags tags e.firing.line.0) is_new (number_at tree tags place e)
 has_number p tree e line before tags place NothingTaken is_new me above kids there own even some first =
     start_number tree tags place e is_new (λ k. no_child tree e.firing e.outs k me) above kids first
     (ap (λ cs. slice_get cs 0) (channels_are tree e false false nobody e.firing.me me above kids refl ∙ no_kids tree e.firing.line.0 e.firing.object.0))

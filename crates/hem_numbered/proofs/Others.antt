@@ -12,12 +12,12 @@ use Rattle.hem_fire.specs.declared.outs.Outs.{Outs}
 use Rattle.hem_system.specs.declared.lane.Lane.{Lane}
 use Rattle.hem_system.specs.declared.lane.Lane.TheVariants.{UpRequests, UpResponses, Down, Requests}
 use Rattle.hem_system.specs.State.{Line, list_at, takes, reaches, list_after}
-use Rattle.hem_locks.specs.Acts.{is_down_request, is_down_response}
-use Rattle.hem_shape.specs.Picture.{set_at}
+use Rattle.hem_rows.specs.Acts.{is_down_request, is_down_response}
+use Rattle.hem_shape.specs.Progress.{set_at}
 use Rattle.hem_shape.proofs.Spots.{same_or_other, set_here, set_there}
-use Rattle.hem_numbered.specs.Numbers.{Numbers, lock_number, numbers_after, carries, is_any, held_for, uplock_at, downlock_at, picture_of}
+use Rattle.hem_numbered.specs.Numbers.{Numbers, lock_number, numbers_after, carries, is_any, held_for, uplock_at, downlock_at, progress_of}
 use Rattle.hem_numbered.specs.Firings.{Leads, ChangesOnce, IsNumbered}
-use Rattle.hem_numbered.proofs.Alike.{same_picture}
+use Rattle.hem_numbered.proofs.Alike.{same_progress}
 use Rattle.hem_numbered.proofs.Carried.{carries_other}
 
 -- a lock, for another transaction
@@ -35,9 +35,9 @@ list_other test tree f outs old new numbers x n k lane leads same other head =
     ap (λ ms. carries test x ms (drop (cond (takes tree f outs k lane) 1 0) (numbers.lists k lane) ++ cond (reaches tree f outs.to k lane) (n ∷ []) [])) leads
     ∙ carries_other test x n (takes tree f outs k lane) (reaches tree f outs.to k lane) outs.message (list_at old k lane) (numbers.lists k lane) same other head
 
-pub picture_other : (p : Protocol) (tree : Tree) (f : Firing) (outs : Outs) (before after : Local) (old new : Line) (numbers : Numbers) (n : ℕ) (t : TemplateName) (x : ℕ) → Leads tree f outs before after old new → ((k : ℕ) (lane : Lane) → lane ≢ Requests → length (numbers.lists k lane) ≡ length (list_at old k lane)) → IsNumbered tree f outs before after numbers n → x ≢ n → picture_of p tree new (numbers_after tree f outs before n t numbers) x ≡ picture_of p tree old numbers x
-picture_other p tree f outs before after old new numbers n t x leads same numbered other =
-    same_picture (picture_of p tree new (numbers_after tree f outs before n t numbers) x) (picture_of p tree old numbers x)
+pub progress_other : (p : Protocol) (tree : Tree) (f : Firing) (outs : Outs) (before after : Local) (old new : Line) (numbers : Numbers) (n : ℕ) (t : TemplateName) (x : ℕ) → Leads tree f outs before after old new → ((k : ℕ) (lane : Lane) → lane ≢ Requests → length (numbers.lists k lane) ≡ length (list_at old k lane)) → IsNumbered tree f outs before after numbers n → x ≢ n → progress_of p tree new (numbers_after tree f outs before n t numbers) x ≡ progress_of p tree old numbers x
+progress_other p tree f outs before after old new numbers n t x leads same numbered other =
+    same_progress (progress_of p tree new (numbers_after tree f outs before n t numbers) x) (progress_of p tree old numbers x)
     (λ k. list_other is_any tree f outs old new numbers x n k UpRequests (leads.lists k UpRequests) (same k UpRequests (λ is. cc)) other (numbered.takes k UpRequests (λ is. cc)))
     (λ k. list_other is_any tree f outs old new numbers x n k UpResponses (leads.lists k UpResponses) (same k UpResponses (λ is. cc)) other (numbered.takes k UpResponses (λ is. cc)))
     (λ k. list_other (is_down_request p) tree f outs old new numbers x n k Down (leads.lists k Down) (same k Down (λ is. cc)) other (numbered.takes k Down (λ is. cc)))

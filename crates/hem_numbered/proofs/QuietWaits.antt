@@ -14,11 +14,11 @@ use Rattle.hem_tree.proofs.Lawful.{number_is}
 use Rattle.hem_fire.specs.declared.outs.Outs.{Outs}
 use Rattle.hem_system.specs.declared.lane.Lane.TheVariants.{UpRequests, Down}
 use Rattle.hem_system.specs.State.{Line, list_at, takes, reaches, sends}
-use Rattle.hem_locks.specs.Acts.{is_down_request, is_down_response}
+use Rattle.hem_rows.specs.Acts.{is_down_request, is_down_response}
 use Rattle.hem_locks.specs.Edges.{count, for_kid, LocksHold}
-use Rattle.hem_shape.specs.Picture.{Asker, child, processor, parent, itself, Picture}
+use Rattle.hem_shape.specs.Progress.{Asker, child, processor, parent, itself, Progress}
 use Rattle.hem_shape.specs.Move.{Taking, request, parent_answer, child_answers, Giving, answer, ask_up, ask_down, given, CanTake, CanGive, template_name}
-use Rattle.hem_numbered.specs.Numbers.{Numbers, carries, is_any, held_for, uplock_at, downlock_at, picture_of, AreNumbers}
+use Rattle.hem_numbered.specs.Numbers.{Numbers, carries, is_any, held_for, uplock_at, downlock_at, progress_of, AreNumbers}
 use Rattle.hem_numbered.specs.Firings.{Leads, IsFiring}
 use Rattle.hem_numbered.specs.Quiet.{QuietAt}
 use Rattle.hem_numbered.proofs.Carried.{carries_first}
@@ -42,7 +42,7 @@ pub lock_here : (line : Line) (lock : Option Lock) (l : Lock) (other : Option Lo
 lock_here line lock l other some same none = let bad : Some l ≡ None = sym some ∙ same ∙ none in cc
 
 -- at a quiet object a firing takes the answer for which the object waits, and is of the transaction that waits
-quiet_takes : (p : Protocol) (tree : Tree) (f : Firing) (t : TemplateName) (kind : Kind) (rule : Rule) (before after : Local) (outs : Outs) (old new : Line) (numbers : Numbers) (n x : ℕ) (a asker : Asker) (takes : Taking) (gives : Giving) → IsFiring p tree f t kind rule before after outs old new → LocksHold p tree old → (picture_of p tree old numbers x).up f.object.0 ≡ Some a → QuietAt p old f.object.0 → template_name takes asker gives ≡ Some t → CanTake tree f.object.0 asker takes (picture_of p tree old numbers n) → (takes ≡ parent_answer) × (x ≡ n)
+quiet_takes : (p : Protocol) (tree : Tree) (f : Firing) (t : TemplateName) (kind : Kind) (rule : Rule) (before after : Local) (outs : Outs) (old new : Line) (numbers : Numbers) (n x : ℕ) (a asker : Asker) (takes : Taking) (gives : Giving) → IsFiring p tree f t kind rule before after outs old new → LocksHold p tree old → (progress_of p tree old numbers x).up f.object.0 ≡ Some a → QuietAt p old f.object.0 → template_name takes asker gives ≡ Some t → CanTake tree f.object.0 asker takes (progress_of p tree old numbers n) → (takes ≡ parent_answer) × (x ≡ n)
 quiet_takes p tree f t kind rule before after outs old new numbers n x a asker parent_answer gives c locks waits quiet named can =
     let o = f.object.0 in
     (refl, sym (held_number tree o x (numbers.up o) (uplock_at old o) a waits) ∙ held_number tree o n (numbers.up o) (uplock_at old o) asker can.up)
@@ -68,7 +68,7 @@ quiet_takes p tree f t kind rule before after outs old new numbers n x a asker r
         let size : count test (q ∷ ms) ≡ suc (length (filter test ms)) = ap (λ b. length (cond b (q ∷ filter test ms) (filter test ms))) (ap test same ∙ is) in
         omega (arith, size)
 
-pub quiet_own : (p : Protocol) (tree : Tree) (f : Firing) (t : TemplateName) (kind : Kind) (rule : Rule) (before after : Local) (outs : Outs) (old new : Line) (numbers : Numbers) (is_new first : ℕ → Bool) (n x : ℕ) (a : Asker) → (it : Fired p tree f t kind rule before after outs old new numbers is_new first n) → (picture_of p tree old numbers x).up f.object.0 ≡ Some a → QuietAt p old f.object.0 → (it.move.takes ≡ parent_answer) × (x ≡ n)
+pub quiet_own : (p : Protocol) (tree : Tree) (f : Firing) (t : TemplateName) (kind : Kind) (rule : Rule) (before after : Local) (outs : Outs) (old new : Line) (numbers : Numbers) (is_new first : ℕ → Bool) (n x : ℕ) (a : Asker) → (it : Fired p tree f t kind rule before after outs old new numbers is_new first n) → (progress_of p tree old numbers x).up f.object.0 ≡ Some a → QuietAt p old f.object.0 → (it.move.takes ≡ parent_answer) × (x ≡ n)
 quiet_own p tree f t kind rule before after outs old new numbers is_new first n x a it waits quiet =
     quiet_takes p tree f t kind rule before after outs old new numbers n x a it.move.asker it.move.takes it.move.gives it.firing it.locks waits quiet it.move.named it.move.taking.can
 
@@ -76,7 +76,7 @@ quiet_own p tree f t kind rule before after outs old new numbers is_new first n 
 pub asked_target : (p : Protocol) (tree : Tree) (f : Firing) (outs : Outs) (asker : Asker) (gives : Giving) (k : ℕ) → GivesAs p tree f outs asker gives → CanGive tree f.object.0 asker gives → reaches tree f outs.to k Down ≡ true → is_down_request p outs.message ≡ true → (is_child tree k f.object.0 ≡ true) × (asker ≢ child k)
 asked_target p tree f outs asker gives k as_given can reach is = by_gives asker gives can (sym (as_given.asks_down nothing k) ∙ ap (λ b. b && is_down_request p outs.message) reach ∙ is)
   where
-    nothing : Picture
+    nothing : Progress
     nothing = record { asks_up = λ k. false; answers_up = λ k. false; asks_down = λ k. false; answers_down = λ k. false; up = λ k. None; down = λ k. None; fired = λ k. [] }
 
     by_gives : (asker : Asker) (gives : Giving) → CanGive tree f.object.0 asker gives → (given f.object.0 asker gives nothing).asks_down k ≡ true → (is_child tree k f.object.0 ≡ true) × (asker ≢ child k)
@@ -91,7 +91,7 @@ asked_target p tree f outs asker gives k as_given can reach is = by_gives asker 
 pub asks_free : (p : Protocol) (tree : Tree) (f : Firing) (outs : Outs) (asker : Asker) (takes : Taking) (gives : Giving) (k : ℕ) (before after : Option Lock) → GivesAs p tree f outs asker gives → DownAs tree f.object.0 asker takes gives before after → reaches tree f outs.to k Down ≡ true → is_down_request p outs.message ≡ true → before ≡ None
 asks_free p tree f outs asker takes gives k before after as_given down reach is = by_gives asker gives down (sym (as_given.asks_down nothing k) ∙ ap (λ b. b && is_down_request p outs.message) reach ∙ is)
   where
-    nothing : Picture
+    nothing : Progress
     nothing = record { asks_up = λ k. false; answers_up = λ k. false; asks_down = λ k. false; answers_down = λ k. false; up = λ k. None; down = λ k. None; fired = λ k. [] }
 
     by_gives : (asker : Asker) (gives : Giving) → DownAs tree f.object.0 asker takes gives before after → (given f.object.0 asker gives nothing).asks_down k ≡ true → before ≡ None
@@ -135,7 +135,7 @@ stays_quiet p tree f outs before after old new k leads other quiet alone =
     by_old (suc m) is requests responses some = let one = quiet.behind (omega (arith, is)) in omega (arith, responses, one)
 
 -- a message upward of an object carries the number of the object's uplock
-pub ask_number : (p : Protocol) (tree : Tree) (line : Line) (numbers : Numbers) (is_new : ℕ → Bool) (k x : ℕ) (a : Asker) → AreNumbers p tree line numbers is_new → (picture_of p tree line numbers x).up k ≡ Some a → 1 ≤ length (list_at line k UpRequests) → (picture_of p tree line numbers x).asks_up k ≡ true
+pub ask_number : (p : Protocol) (tree : Tree) (line : Line) (numbers : Numbers) (is_new : ℕ → Bool) (k x : ℕ) (a : Asker) → AreNumbers p tree line numbers is_new → (progress_of p tree line numbers x).up k ≡ Some a → 1 ≤ length (list_at line k UpRequests) → (progress_of p tree line numbers x).asks_up k ≡ true
 ask_number p tree line numbers is_new k x a known waits some =
     let m = one (list_at line k UpRequests) some in
     let y = numbered (list_at line k UpRequests) (numbers.lists k UpRequests) m.0 (known.lists k UpRequests (λ bad. cc)) m.1 in
@@ -149,11 +149,11 @@ ask_number p tree line numbers is_new k x a known waits some =
     one (m ∷ ms) some = (m, refl)
 
 -- a lock of a parent that counts at a child's edge is of the transaction that waits at the child
-pub high_number : (p : Protocol) (tree : Tree) (line : Line) (numbers : Numbers) (is_new : ℕ → Bool) (k o x : ℕ) (a : Asker) → AreNumbers p tree line numbers is_new → is_child tree k o ≡ true → (picture_of p tree line numbers x).up k ≡ Some a → 1 ≤ for_kid (place_among tree o k) (uplock_at line o) → (picture_of p tree line numbers x).up o ≡ Some (child k)
+pub high_number : (p : Protocol) (tree : Tree) (line : Line) (numbers : Numbers) (is_new : ℕ → Bool) (k o x : ℕ) (a : Asker) → AreNumbers p tree line numbers is_new → is_child tree k o ≡ true → (progress_of p tree line numbers x).up k ≡ Some a → 1 ≤ for_kid (place_among tree o k) (uplock_at line o) → (progress_of p tree line numbers x).up o ≡ Some (child k)
 high_number p tree line numbers is_new k o x a known own waits some =
     let lock = counted_child tree o k (uplock_at line o) own some in
     let y = numbers.up o in
-    let there : (picture_of p tree line numbers y).up o ≡ Some (child k) = held_is tree o y (numbers.up o) (uplock_at line o) lock.0 lock.1 refl ∙ ap Some lock.2 in
+    let there : (progress_of p tree line numbers y).up o ≡ Some (child k) = held_is tree o y (numbers.up o) (uplock_at line o) lock.0 lock.1 refl ∙ ap Some lock.2 in
     let holds = (known.shapes y).below.up o k there in
     let same : y ≡ x = sym (held_number tree k y (numbers.up k) (uplock_at line k) holds.asker holds.held) ∙ held_number tree k x (numbers.up k) (uplock_at line k) a waits in
     subst (λ z. held_for tree o z (numbers.up o) (uplock_at line o) ≡ Some (child k)) same there

@@ -11,13 +11,13 @@ use Rattle.hem_work.specs.Work.{Work, requests_of}
 use Rattle.hem_system.specs.declared.lane.Lane.{Lane}
 use Rattle.hem_system.specs.declared.lane.Lane.TheVariants.{UpRequests, UpResponses, Down, Requests, Answers}
 use Rattle.hem_system.specs.State.{Cell, State, Line, list_of, list_at, first_cell, first_line, start}
-use Rattle.hem_law.proofs.Inverted.{if_mapped}
+use Rattle.hem_rows.proofs.Choices.{if_mapped}
 use Rattle.hem_law.proofs.LineParts.{slice_get-map_each}
-use Rattle.hem_locks.specs.Acts.{is_down_request, is_down_response}
+use Rattle.hem_rows.specs.Acts.{is_down_request, is_down_response}
 use Rattle.hem_locks.specs.Edges.{AllLocksHold}
-use Rattle.hem_shape.specs.Picture.{IsBlank}
-use Rattle.hem_shape.proofs.Stories.{blank_shape}
-use Rattle.hem_numbered.specs.Numbers.{no_numbers, carries, is_any, held_for, uplock_at, downlock_at, picture_of}
+use Rattle.hem_shape.specs.Progress.{IsBlank}
+use Rattle.hem_shape.proofs.Phases.{blank_shape}
+use Rattle.hem_numbered.specs.Numbers.{no_numbers, carries, is_any, held_for, uplock_at, downlock_at, progress_of}
 use Rattle.hem_numbered.specs.Histories.{AreKnown}
 
 -- a line on which no channel has a message, and no lock is held
@@ -53,7 +53,7 @@ first_idle p tree requests =
     no_down k None = refl
     no_down k (Some node) = refl
 
-pub idle_blank : (p : Protocol) (tree : Tree) (line : Line) (x : ℕ) → IsIdle line → IsBlank (picture_of p tree line no_numbers x)
+pub idle_blank : (p : Protocol) (tree : Tree) (line : Line) (x : ℕ) → IsIdle line → IsBlank (progress_of p tree line no_numbers x)
 idle_blank p tree line x idle =
     record {
       asks_up = λ k. ap (λ ms. carries is_any x ms []) (idle.lists k UpRequests (λ bad. cc));
@@ -77,10 +77,10 @@ known_start p tree owner s locks idle =
       locks = locks;
       numbers = λ l line at. record {
         lists = λ k lane other. sym (ap length ((idle l line at).lists k lane other));
-        shapes = λ x. blank_shape tree (picture_of p tree line no_numbers x) (idle_blank p tree line x (idle l line at));
+        shapes = λ x. blank_shape tree (progress_of p tree line no_numbers x) (idle_blank p tree line x (idle l line at));
         fresh = λ x is. idle_blank p tree line x (idle l line at);
       };
       owned = λ l x line at begun. absurd (begun (idle_blank p tree line x (idle l line at)));
-      stories = λ l x line at here. inl (record { blank = idle_blank p tree line x (idle l line at); none = refl });
+      phases = λ l x line at here. inl (record { blank = idle_blank p tree line x (idle l line at); none = refl });
       forms = λ x. inl (tt, tt);
     }

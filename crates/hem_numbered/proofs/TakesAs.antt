@@ -14,11 +14,11 @@ use Rattle.hem_fire.specs.declared.outs.Outs.{Outs}
 use Rattle.hem_system.specs.declared.lane.Lane.{Lane}
 use Rattle.hem_system.specs.declared.lane.Lane.TheVariants.{UpRequests, UpResponses, Down}
 use Rattle.hem_system.specs.State.{Line, list_at, takes}
-use Rattle.hem_locks.specs.Acts.{is_down_request, is_down_response}
-use Rattle.hem_shape.specs.Picture.{Asker, child, processor, parent, itself, set_at}
+use Rattle.hem_rows.specs.Acts.{is_down_request, is_down_response}
+use Rattle.hem_shape.specs.Progress.{Asker, child, processor, parent, itself, set_at}
 use Rattle.hem_shape.specs.Move.{Taking, request, parent_answer, child_answers, taken}
 use Rattle.hem_shape.proofs.Spots.{same_or_other, set_here, set_there}
-use Rattle.hem_numbered.specs.Numbers.{Numbers, carries, is_any, picture_of, downlock_at}
+use Rattle.hem_numbered.specs.Numbers.{Numbers, carries, is_any, progress_of, downlock_at}
 use Rattle.hem_numbered.specs.Bounds.{AreBounded, count, awaits}
 use Rattle.hem_numbered.proofs.Carried.{carries_none, carries_gone, carries_passed, carries_short, count_any}
 
@@ -29,10 +29,10 @@ left test tree f outs line numbers n lane k =
 
 -- what a firing leaves of the lists, as its own transaction sees it
 pub record TakesAs (p : Protocol) (tree : Tree) (f : Firing) (outs : Outs) (line : Line) (numbers : Numbers) (n : ℕ) (asker : Asker) (takes : Taking) : Type 0 where
-  pub asks_up : (k : ℕ) → left is_any tree f outs line numbers n UpRequests k ≡ (taken tree f.object.0 asker takes (picture_of p tree line numbers n)).asks_up k
-  pub answers_up : (k : ℕ) → left is_any tree f outs line numbers n UpResponses k ≡ (taken tree f.object.0 asker takes (picture_of p tree line numbers n)).answers_up k
-  pub asks_down : (k : ℕ) → left (is_down_request p) tree f outs line numbers n Down k ≡ (taken tree f.object.0 asker takes (picture_of p tree line numbers n)).asks_down k
-  pub answers_down : (k : ℕ) → left (is_down_response p) tree f outs line numbers n Down k ≡ (taken tree f.object.0 asker takes (picture_of p tree line numbers n)).answers_down k
+  pub asks_up : (k : ℕ) → left is_any tree f outs line numbers n UpRequests k ≡ (taken tree f.object.0 asker takes (progress_of p tree line numbers n)).asks_up k
+  pub answers_up : (k : ℕ) → left is_any tree f outs line numbers n UpResponses k ≡ (taken tree f.object.0 asker takes (progress_of p tree line numbers n)).answers_up k
+  pub asks_down : (k : ℕ) → left (is_down_request p) tree f outs line numbers n Down k ≡ (taken tree f.object.0 asker takes (progress_of p tree line numbers n)).asks_down k
+  pub answers_down : (k : ℕ) → left (is_down_response p) tree f outs line numbers n Down k ≡ (taken tree f.object.0 asker takes (progress_of p tree line numbers n)).answers_down k
 
 -- a list that isn't taken from
 left_all : (test : Message → Bool) (tree : Tree) (f : Firing) (outs : Outs) (line : Line) (numbers : Numbers) (n : ℕ) (lane : Lane) (k : ℕ) → takes tree f outs k lane ≡ false → left test tree f outs line numbers n lane k ≡ carries test n (list_at line k lane) (numbers.lists k lane)
@@ -122,8 +122,8 @@ child_as p tree f outs line numbers n c bounded me named own above kids =
       asks_up = λ k. ⊎_elim
           (λ same. left_one is_any tree f outs line numbers n UpRequests k (child_here tree f outs c k me named own same)
           ∙ carries_short is_any n (list_at line k UpRequests) (drop 1 (numbers.lists k UpRequests)) (let most = bounded.one k f.object.0 (ap (λ k. is_child tree k f.object.0) same ∙ own) in omega (arith, most))
-          ∙ sym (set_here c.0 false (picture_of p tree line numbers n).asks_up k same))
-          (λ other. left_all is_any tree f outs line numbers n UpRequests k (child_elsewhere tree f outs c k named other) ∙ sym (set_there c.0 false (picture_of p tree line numbers n).asks_up k other))
+          ∙ sym (set_here c.0 false (progress_of p tree line numbers n).asks_up k same))
+          (λ other. left_all is_any tree f outs line numbers n UpRequests k (child_elsewhere tree f outs c k named other) ∙ sym (set_there c.0 false (progress_of p tree line numbers n).asks_up k other))
           (same_or_other k c.0);
       answers_up = λ k. left_all is_any tree f outs line numbers n UpResponses k (no_children tree f outs k kids);
       asks_down = λ k. left_all (is_down_request p) tree f outs line numbers n Down k (no_parent tree f outs k above);

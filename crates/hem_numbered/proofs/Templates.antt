@@ -20,8 +20,8 @@ use Rattle.hem_fire.specs.Sends.{to_requester}
 use Rattle.hem_system.specs.State.{Line, reaches, place_of_me}
 use Rattle.hem_system.proofs.Kids.{at_child}
 use Rattle.hem_system.proofs.Takers.{and_left, and_right}
-use Rattle.hem_locks.specs.Acts.{GoesToRequester, GoesToKids}
-use Rattle.hem_shape.specs.Picture.{Asker, child, processor, parent, itself}
+use Rattle.hem_rows.specs.Acts.{GoesToRequester, GoesToKids}
+use Rattle.hem_shape.specs.Progress.{Asker, child, processor, parent, itself}
 use Rattle.hem_shape.specs.Move.{Taking, request, parent_answer, child_answers, Giving, answer, ask_up, ask_down, template_name, CanGive}
 use Rattle.hem_numbered.specs.Numbers.{Numbers, asker_of, uplock_at, downlock_at, AreNumbers}
 use Rattle.hem_numbered.specs.Firings.{HasNumber, IsFiring}

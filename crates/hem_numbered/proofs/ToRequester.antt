@@ -11,9 +11,8 @@ use Rattle.hem_syntax.specs.declared.rule.Class.{Class}
 use Rattle.hem_syntax.specs.declared.rule.Class.TheVariants.{ExtReq, ExtRsp, UpReq, UpRsp, DownReq, DownRsp}
 use Rattle.hem_object.specs.declared.state.By.{By}
 use Rattle.hem_object.specs.declared.state.By.TheVariants.{Processor, Kid, Parent, Own}
-use Rattle.hem_syntax.specs.Protocol.{Protocol, class_of}
+use Rattle.hem_syntax.specs.Protocol.{Protocol, class_of, has_class, is_down_req, is_down_rsp}
 use Rattle.hem_template.specs.Template.{is_leaf}
-use Rattle.hem_syntax.specs.Protocol.{has_class, is_down_req, is_down_rsp}
 use Rattle.hem_tree.specs.Tree.{Tree, Node, kind_of, children_of, is_child, place_among, IsLawful}
 use Rattle.hem_fire.specs.declared.outs.To.TheVariants as to
 use Rattle.hem_fire.specs.declared.outs.Outs.{Outs}
@@ -23,8 +22,8 @@ use Rattle.hem_system.specs.declared.lane.Lane.TheVariants.{UpRequests, UpRespon
 use Rattle.hem_system.specs.State.{reaches}
 use Rattle.hem_system.proofs.Kids.{child_at}
 use Rattle.std.proofs.lemmas.Option.{slice_get_within}
-use Rattle.hem_locks.specs.Acts.{is_down_response}
-use Rattle.hem_shape.specs.Picture.{child, processor}
+use Rattle.hem_rows.specs.Acts.{is_down_response}
+use Rattle.hem_shape.specs.Progress.{child, processor}
 use Rattle.hem_shape.specs.Move.{answer}
 use Rattle.hem_numbered.specs.Numbers.{asker_of}
 use Rattle.hem_numbered.proofs.Held.{Asks}

@@ -1,6 +1,6 @@
 -- The entries of a history have numbers, and their transactions forms.
 use Rattle.std.proofs.Common.{◌≡◌, ◌≢◌, ℕ, ◌+◌, ◌<◌, ◌≤◌, Bool, true, false, cond, not, ◌&&◌, List, [], ◌∷◌, ◌++◌, drop, refl, sym, ap, ◌∙◌, subst, arith, Option, Some, ⊎_elim}
-use Rattle.std.specs.Prelude.{◌==◌, slice_get, option_map, option_and_then}
+use Rattle.std.specs.Prelude.{◌==◌, slice_get, option_map, option_and_then, slice_set}
 use Rattle.std.proofs.str.Laws.{order}
 use Rattle.std.proofs.lemmas.Bool.{eqb-true}
 use Rattle.hem_base.specs.declared.ids.Firing.{Firing}
@@ -11,18 +11,16 @@ use Rattle.hem_tree.specs.Tree.{Tree, IsLawful}
 use Rattle.hem_system.specs.declared.lane.Lane.{Lane}
 use Rattle.hem_system.specs.declared.lane.Lane.TheVariants.{UpResponses, Requests}
 use Rattle.hem_system.specs.State.{State, Line, LineStep, Step, Effect, takes, reaches, fire, run, step_of, line_step_of, line_after, place_of_me}
-use Rattle.std.specs.Prelude.{slice_set}
 use Rattle.hem_trace.specs.Blocks.{Each}
 use Rattle.hem_trace.specs.History.{Event, Channel, events, takes_from}
 use Rattle.hem_trace.specs.Tags.{Tags, tags_after, number_at, numbers_by_tags}
 use Rattle.hem_trace.specs.Order.{Entry, entries_from}
 use Rattle.hem_law.specs.Normal.{AreNumbered}
-use Rattle.hem_law.proofs.Inverted.{if_some}
-use Rattle.hem_locks.specs.Rows.{IsTaking}
-use Rattle.hem_locks.specs.Acts.{takes_kids}
-use Rattle.hem_locks.specs.Acted.{AllHaveTemplates}
+use Rattle.hem_rows.proofs.Choices.{if_some}
+use Rattle.hem_rows.specs.Rows.{IsTaking, AllHaveTemplates}
+use Rattle.hem_rows.specs.Acts.{takes_kids}
 use Rattle.hem_locks.proofs.States.{IsMade, made}
-use Rattle.hem_shape.specs.Picture.{set_at}
+use Rattle.hem_shape.specs.Progress.{set_at}
 use Rattle.hem_shape.proofs.Spots.{same_or_other, set_here, set_there, true_false, and_both}
 use Rattle.hem_numbered.specs.Numbers.{Numbers}
 use Rattle.hem_numbered.specs.Firings.{HasNumber}

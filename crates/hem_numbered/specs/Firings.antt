@@ -14,8 +14,8 @@ use Rattle.hem_fire.specs.OneFire.{OneFire}
 use Rattle.hem_system.specs.declared.lane.Lane.{Lane}
 use Rattle.hem_system.specs.declared.lane.Lane.TheVariants.{UpRequests, UpResponses, Down, Requests}
 use Rattle.hem_system.specs.State.{Line, local_at, list_at, list_after, takes, is_own_child, place_of_me, heads_of}
-use Rattle.hem_locks.specs.Rows.{IsOfRow}
-use Rattle.hem_locks.specs.Acts.{Acts}
+use Rattle.hem_rows.specs.Rows.{IsOfRow}
+use Rattle.hem_rows.specs.Acts.{Acts}
 use Rattle.hem_numbered.specs.Numbers.{Numbers}
 use Rattle.hem_numbered.specs.Bounds.{AreBounded}
 

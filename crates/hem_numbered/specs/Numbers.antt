@@ -14,8 +14,8 @@ use Rattle.hem_fire.specs.declared.outs.Outs.{Outs}
 use Rattle.hem_system.specs.declared.lane.Lane.{Lane}
 use Rattle.hem_system.specs.declared.lane.Lane.TheVariants.{UpRequests, UpResponses, Down, Requests}
 use Rattle.hem_system.specs.State.{Line, local_at, list_at, takes, reaches}
-use Rattle.hem_locks.specs.Acts.{is_down_request, is_down_response}
-use Rattle.hem_shape.specs.Picture.{Asker, child, processor, parent, itself, Picture, set_at, IsBlank}
+use Rattle.hem_rows.specs.Acts.{is_down_request, is_down_response}
+use Rattle.hem_shape.specs.Progress.{Asker, child, processor, parent, itself, Progress, set_at, IsBlank}
 use Rattle.hem_shape.specs.Shape.{HasShape}
 
 -- of each list the numbers that its messages carry, of each lock the number of the firing that took it last, and of each transaction the templates that it has fired at each object
@@ -76,8 +76,8 @@ abbrev pub downlock_at : Line → ℕ → Option Lock
 downlock_at line k = option_and_then (λ local. local.down) (local_at line k)
 
 -- where transaction x stands on a line
-abbrev pub picture_of : Protocol → Tree → Line → Numbers → ℕ → Picture
-picture_of p tree line numbers x =
+abbrev pub progress_of : Protocol → Tree → Line → Numbers → ℕ → Progress
+progress_of p tree line numbers x =
     record {
       asks_up = λ k. carries is_any x (list_at line k UpRequests) (numbers.lists k UpRequests);
       answers_up = λ k. carries is_any x (list_at line k UpResponses) (numbers.lists k UpResponses);
@@ -91,5 +91,5 @@ picture_of p tree line numbers x =
 -- each transaction on a line has its shape, each message its number, and transactions of new numbers haven't begun
 pub record AreNumbers (p : Protocol) (tree : Tree) (line : Line) (numbers : Numbers) (is_new : ℕ → Bool) : Type 0 where
   pub lists : (k : ℕ) (lane : Lane) → lane ≢ Requests → length (numbers.lists k lane) ≡ length (list_at line k lane)
-  pub shapes : (x : ℕ) → HasShape tree (picture_of p tree line numbers x)
-  pub fresh : (x : ℕ) → is_new x ≡ true → IsBlank (picture_of p tree line numbers x)
+  pub shapes : (x : ℕ) → HasShape tree (progress_of p tree line numbers x)
+  pub fresh : (x : ℕ) → is_new x ≡ true → IsBlank (progress_of p tree line numbers x)

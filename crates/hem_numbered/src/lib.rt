@@ -22,14 +22,13 @@ ghost use Rattle.hem_law.specs.Normal.{AreNumbered, OnlyUp};
 ghost use Rattle.hem_law.specs.Orderly.{IsOrderly};
 ghost use Rattle.hem_law.specs.Orders.{RowsAgree};
 ghost use Rattle.hem_law.specs.Printed.{event_of, firings_in, rows_of, AreTransactions};
-ghost use Rattle.hem_law.specs.Stable.{IsStable};
+ghost use Rattle.hem_abstract.specs.Stable.{IsStable};
 ghost use Rattle.hem_law.specs.Windows.{HasWholeWindows};
-ghost use Rattle.hem_locks.specs.Acted.{AllHaveTemplates};
+ghost use Rattle.hem_rows.specs.Rows.{AllHaveTemplates};
 ghost use Rattle.hem_numbered.specs.Numbers.{Numbers, numbers_after, AreNumbers};
 ghost use Rattle.hem_numbered.specs.Firings.{HasNumber, IsFiring, IsNumbered};
 ghost use Rattle.hem_numbered.specs.Histories.{EndsWhereUp};
-ghost use Rattle.hem_numbered.specs.Grouped.{RunsTight};
-ghost use Rattle.hem_numbered.specs.RolesMade.{HasRole};
+ghost use Rattle.hem_numbered.specs.Grouped.{RunsAdjacent};
 
 /// A firing takes only messages of its own number, and frees only locks of its own number.
 pub fn firings_take_their_own_number()
@@ -55,8 +54,8 @@ pub fn transactions_rise_to_their_anchors()
 
 /// Where after each request upward comes the next firing of its transaction, transactions stand together at each object,
 /// and in one order at parent and child.
-pub fn tight_histories_agree()
-    ensures { (p : Protocol) (tree : Tree) (work : Work) (owner : ℕ → ℕ) (xs : List Entry) (s : State) → IsProtocol p → IsLawful tree → AllHaveTemplates p → RunsTight p tree owner (start p tree work) xs s → (l : ℕ) → RowsAgree tree (rows_of xs l) }
+pub fn adjacent_histories_agree()
+    ensures { (p : Protocol) (tree : Tree) (work : Work) (owner : ℕ → ℕ) (xs : List Entry) (s : State) → IsProtocol p → IsLawful tree → AllHaveTemplates p → RunsAdjacent p tree owner (start p tree work) xs s → (l : ℕ) → RowsAgree tree (rows_of xs l) }
 {}
 
 /// Where the normal order of a history runs, transactions stand together at each object in it, and in one order at parent
@@ -70,9 +69,4 @@ pub fn normal_orders_agree()
 pub fn histories_with_whole_windows_are_serial()
     ensures orderly { (p : Protocol) (tree : Tree) (work : Work) (h : List Firing) (s : State) → IsProtocol p → IsStable p → IsLawful tree → AllHaveTemplates p → Runs p tree (start p tree work) h s → HasWholeWindows p tree (entries_of p tree (start p tree work) h) → IsOrderly p tree (start p tree work) h }
     ensures serial { (p : Protocol) (tree : Tree) (work : Work) (h : List Firing) (s : State) → IsProtocol p → IsStable p → IsLawful tree → AllHaveTemplates p → Runs p tree (start p tree work) h s → HasWholeWindows p tree (entries_of p tree (start p tree work) h) → IsSerial p tree (start p tree work) (printed (entries_of p tree (start p tree work) h)) s × SameFirings h (firings_of (printed (entries_of p tree (start p tree work) h))) }
-{}
-
-/// What a transaction of a history fires at an object is a role.
-pub fn transactions_have_roles()
-    ensures { (p : Protocol) (tree : Tree) (work : Work) (h : List Firing) (s : State) → IsProtocol p → IsLawful tree → AllHaveTemplates p → Runs p tree (start p tree work) h s → (l : ℕ) (line : Line) → slice_get s l ≡ Some line → (o x : ℕ) → HasRole p tree (entries_of p tree (start p tree work) h) l o x }
 {}

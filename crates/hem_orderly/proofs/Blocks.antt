@@ -12,10 +12,12 @@ use Rattle.hem_syntax.specs.Protocol.{Protocol, rule_named}
 use Rattle.hem_template.specs.Template.{template_of}
 use Rattle.hem_tree.specs.Tree.{Tree, kind_of}
 use Rattle.hem_trace.specs.Blocks.{Each}
-use Rattle.hem_trace.specs.Order.{Entry, is_upward, is_upward_template}
+use Rattle.hem_trace.specs.Order.{Entry, is_upward}
+use Rattle.hem_template.specs.Waiting.{is_upward_template, template_if}
 use Rattle.hem_law.specs.Lines.{line_firings}
 use Rattle.hem_law.specs.Printed.{firings_in, on_line, entries_at}
-use Rattle.hem_law.specs.Windows.{if_template, template_at, AreWholeBlocks}
+use Rattle.hem_trace.specs.Templates.{template_at}
+use Rattle.hem_law.specs.Windows.{AreWholeBlocks}
 use Rattle.hem_law.proofs.ListFacts.{each-filter}
 use Rattle.hem_windows.specs.Blocks as windows
 use Rattle.hem_windows.specs.Blocks.{templates_at, are_blocks}
@@ -25,15 +27,15 @@ use Rattle.hem_orderly.specs.Climbs.{IsTemplated}
 same_template : (p : Protocol) (tree : Tree) (f : Firing) → windows.template_at p tree f ≡ template_at p tree f
 same_template p tree f = by_kind (kind_of tree f.object.0)
   where
-    by_result : (r : Result TemplateName Clause) → windows.template_if r ≡ if_template r
+    by_result : (r : Result TemplateName Clause) → windows.template_if r ≡ template_if r
     by_result (Ok t) = refl
     by_result (Err c) = refl
 
-    by_rule : (kind : Kind) (rule : Option Rule) → option_and_then (λ rule. windows.template_if (template_of p kind rule)) rule ≡ option_and_then (λ rule. if_template (template_of p kind rule)) rule
+    by_rule : (kind : Kind) (rule : Option Rule) → option_and_then (λ rule. windows.template_if (template_of p kind rule)) rule ≡ option_and_then (λ rule. template_if (template_of p kind rule)) rule
     by_rule kind None = refl
     by_rule kind (Some rule) = by_result (template_of p kind rule)
 
-    by_kind : (kind : Option Kind) → option_and_then (λ kind. option_and_then (λ rule. windows.template_if (template_of p kind rule)) (rule_named p kind f.rule)) kind ≡ option_and_then (λ kind. option_and_then (λ rule. if_template (template_of p kind rule)) (rule_named p kind f.rule)) kind
+    by_kind : (kind : Option Kind) → option_and_then (λ kind. option_and_then (λ rule. windows.template_if (template_of p kind rule)) (rule_named p kind f.rule)) kind ≡ option_and_then (λ kind. option_and_then (λ rule. template_if (template_of p kind rule)) (rule_named p kind f.rule)) kind
     by_kind None = refl
     by_kind (Some kind) = by_rule kind (rule_named p kind f.rule)
 
@@ -134,15 +136,15 @@ whole_blocks p tree l o xs templated blocks =
 upward_by : (p : Protocol) (tree : Tree) (f : Firing) (t : TemplateName) → template_at p tree f ≡ Some t → is_upward p tree f ≡ is_upward_template (Ok t)
 upward_by p tree f t is = same (kind_of tree f.object.0) ∙ ap (λ t. option_map_or (λ t. is_upward_template (Ok t)) t false) is
   where
-    by_result : (r : Result TemplateName Clause) → is_upward_template r ≡ option_map_or (λ t. is_upward_template (Ok t)) (if_template r) false
+    by_result : (r : Result TemplateName Clause) → is_upward_template r ≡ option_map_or (λ t. is_upward_template (Ok t)) (template_if r) false
     by_result (Ok t) = refl
     by_result (Err c) = refl
 
-    by_rule : (kind : Kind) (rule : Option Rule) → option_map_or (λ rule. is_upward_template (template_of p kind rule)) rule false ≡ option_map_or (λ t. is_upward_template (Ok t)) (option_and_then (λ rule. if_template (template_of p kind rule)) rule) false
+    by_rule : (kind : Kind) (rule : Option Rule) → option_map_or (λ rule. is_upward_template (template_of p kind rule)) rule false ≡ option_map_or (λ t. is_upward_template (Ok t)) (option_and_then (λ rule. template_if (template_of p kind rule)) rule) false
     by_rule kind None = refl
     by_rule kind (Some rule) = by_result (template_of p kind rule)
 
-    same : (kind : Option Kind) → option_map_or (λ kind. option_map_or (λ rule. is_upward_template (template_of p kind rule)) (rule_named p kind f.rule) false) kind false ≡ option_map_or (λ t. is_upward_template (Ok t)) (option_and_then (λ kind. option_and_then (λ rule. if_template (template_of p kind rule)) (rule_named p kind f.rule)) kind) false
+    same : (kind : Option Kind) → option_map_or (λ kind. option_map_or (λ rule. is_upward_template (template_of p kind rule)) (rule_named p kind f.rule) false) kind false ≡ option_map_or (λ t. is_upward_template (Ok t)) (option_and_then (λ kind. option_and_then (λ rule. template_if (template_of p kind rule)) (rule_named p kind f.rule)) kind) false
     same None = refl
     same (Some kind) = by_rule kind (rule_named p kind f.rule)
 

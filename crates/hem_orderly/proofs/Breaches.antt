@@ -7,8 +7,8 @@ use Rattle.hem_base.specs.declared.ids.RuleId.{RuleId}
 use Rattle.hem_syntax.specs.declared.rule.Rule.{Rule}
 use Rattle.hem_syntax.specs.Protocol.{Protocol, rule_named}
 use Rattle.hem_template.specs.Template.{template_of}
-use Rattle.hem_trace.specs.Order.{is_upward_template}
-use Rattle.hem_law.specs.Stable.{Breach, first_unstable, IsStable}
+use Rattle.hem_template.specs.Waiting.{is_upward_template}
+use Rattle.hem_abstract.specs.Stable.{Breach, first_unstable, IsStable}
 use Rattle.hem_shape.proofs.Spots.{and_both}
 use Rattle.hem_orderly.specs.Breaches.{have_no_breach}
 

@@ -15,15 +15,15 @@ use Rattle.hem_trace.specs.Order.{Entry}
 use Rattle.hem_law.specs.Lists.{IsPairwise}
 use Rattle.hem_law.specs.Lines.{line_firings}
 use Rattle.hem_law.specs.Printed.{firings_in}
-use Rattle.hem_law.specs.Windows.{template_at}
+use Rattle.hem_trace.specs.Templates.{template_at}
 use Rattle.hem_law.proofs.ListFacts.{each-map}
 use Rattle.hem_locks.specs.Allowed.{HasTemplate}
 use Rattle.hem_locks.proofs.States.{IsMade}
 use Rattle.hem_windows.specs.Pending.{takes_of, top_after, SendsOn}
-use Rattle.hem_shape.specs.Picture.{set_at}
+use Rattle.hem_shape.specs.Progress.{set_at}
 use Rattle.hem_shape.specs.Shape.{is_asking_up}
 use Rattle.hem_shape.proofs.Spots.{same_or_other, set_here, set_there, not_false}
-use Rattle.hem_numbered.specs.Numbers.{Numbers, picture_of}
+use Rattle.hem_numbered.specs.Numbers.{Numbers, progress_of}
 use Rattle.hem_numbered.proofs.Histories.{entry_by, upward_is}
 use Rattle.hem_numbered.proofs.LineSteps.{FiringOf}
 use Rattle.hem_numbered.proofs.OnlyUp.{rising_from}
@@ -115,7 +115,7 @@ on_own p tree l a top line y rest e own less templated possible sends it =
     }
 
 -- the request of a transaction on its way to the anchor
-pub climbs : (p : Protocol) (tree : Tree) (owner : ℕ → ℕ) (h : List Firing) (s new : State) (all : ℕ → Numbers) (is_new : ℕ → Bool) (past : List Entry) (place l a x top : ℕ) (line : Line) → IsAt p tree owner h s new all is_new past place → slice_get s l ≡ Some line → owner x ≡ l → (picture_of p tree line (all l) x).asks_up top ≡ true → IsUnderWay a x (entries_on p tree h s all place) → Climbs p tree l a top line (entries_on p tree h s all place)
+pub climbs : (p : Protocol) (tree : Tree) (owner : ℕ → ℕ) (h : List Firing) (s new : State) (all : ℕ → Numbers) (is_new : ℕ → Bool) (past : List Entry) (place l a x top : ℕ) (line : Line) → IsAt p tree owner h s new all is_new past place → slice_get s l ≡ Some line → owner x ≡ l → (progress_of p tree line (all l) x).asks_up top ≡ true → IsUnderWay a x (entries_on p tree h s all place) → Climbs p tree l a top line (entries_on p tree h s all place)
 climbs p tree owner [] s new all is_new past place l a x top line at there owned asks under = absurd under.among
 climbs p tree owner (f ∷ h) s new all is_new past place l a x top line at there owned asks under =
     let it = next p tree owner f h s new all is_new past place at in
@@ -125,7 +125,7 @@ climbs p tree owner (f ∷ h) s new all is_new past place l a x top line at ther
   where
     one : (it : Next p tree owner f h s new all is_new past place)
         → IsUnderWay a x (entry_by p tree place it.n f it.it.effect ∷ entries_on p tree h it.mid (set_at f.line.0 it.step.now all) (place + 1))
-        → ((line' : Line) (top' : ℕ) → slice_get it.mid l ≡ Some line' → (picture_of p tree line' (set_at f.line.0 it.step.now all l) x).asks_up top' ≡ true → IsUnderWay a x (entries_on p tree h it.mid (set_at f.line.0 it.step.now all) (place + 1)) → Climbs p tree l a top' line' (entries_on p tree h it.mid (set_at f.line.0 it.step.now all) (place + 1)))
+        → ((line' : Line) (top' : ℕ) → slice_get it.mid l ≡ Some line' → (progress_of p tree line' (set_at f.line.0 it.step.now all l) x).asks_up top' ≡ true → IsUnderWay a x (entries_on p tree h it.mid (set_at f.line.0 it.step.now all) (place + 1)) → Climbs p tree l a top' line' (entries_on p tree h it.mid (set_at f.line.0 it.step.now all) (place + 1)))
         → Climbs p tree l a top line (entry_by p tree place it.n f it.it.effect ∷ entries_on p tree h it.mid (set_at f.line.0 it.step.now all) (place + 1))
     one it under go = by_place under.among
       where
@@ -147,11 +147,11 @@ climbs p tree owner (f ∷ h) s new all is_new past place l a x top line at ther
         possible : f.line.0 ≡ l → effect_of p tree line f ≡ Some it.it.effect
         possible own = ap (λ line. effect_of p tree line f) (sym (line_is own)) ∙ it.it.possible
 
-        asks_here : f.line.0 ≡ l → (picture_of p tree it.it.line (all f.line.0) x).asks_up top ≡ true
-        asks_here own = ap (λ line. (picture_of p tree line (all f.line.0) x).asks_up top) (line_is own) ∙ ap (λ l. (picture_of p tree line (all l) x).asks_up top) own ∙ asks
+        asks_here : f.line.0 ≡ l → (progress_of p tree it.it.line (all f.line.0) x).asks_up top ≡ true
+        asks_here own = ap (λ line. (progress_of p tree line (all f.line.0) x).asks_up top) (line_is own) ∙ ap (λ l. (progress_of p tree line (all l) x).asks_up top) own ∙ asks
 
         takes : f.line.0 ≡ l → it.n ≡ x → (takes_of top f ≡ true) × (is_asking_up it.step.of.t ≡ true → it.step.of.t ≡ RqUp)
-        takes own same = own_takes p tree owner s it.mid all is_new (λ y. y == place) past it.it.line f it.it.effect place it.n top at.known it.it.there it.step (ap (λ n. (picture_of p tree it.it.line (all f.line.0) n).asks_up top) same ∙ asks_here own)
+        takes own same = own_takes p tree owner s it.mid all is_new (λ y. y == place) past it.it.line f it.it.effect place it.n top at.known it.it.there it.step (ap (λ n. (progress_of p tree it.it.line (all f.line.0) n).asks_up top) same ∙ asks_here own)
 
         asks_up : y.upward ≡ true → is_asking_up it.step.of.t ≡ true
         asks_up up = sym (upward_is p tree f it.step.of.kind it.step.of.rule it.step.of.t it.step.of.is.kind_is it.step.of.named it.step.of.template) ∙ up
@@ -163,14 +163,14 @@ climbs p tree owner (f ∷ h) s new all is_new past place l a x top line at ther
         by_line among less (inr other) =
             on_other p tree l a top line y rest other less templated
             (go line top (other_line p tree s it.mid f it.it l (λ same. other (sym same)) ∙ there)
-            (ap (λ numbers. (picture_of p tree line numbers x).asks_up top) (set_there f.line.0 it.step.now all l (λ same. other (sym same))) ∙ asks)
+            (ap (λ numbers. (progress_of p tree line numbers x).asks_up top) (set_there f.line.0 it.step.now all l (λ same. other (sym same))) ∙ asks)
             (under_rest among))
         by_line among less (inl own) =
             on_own p tree l a top line y rest it.it.effect own less templated (possible own) sends_on
             (go (line_after tree f it.it.effect line) (cond (takes_of top f) f.object.0 top)
             (ap (slice_get it.mid) (sym own) ∙ line_now p tree s it.mid f it.it ∙ ap (λ line. Some (line_after tree f it.it.effect line)) (line_is own))
-            (ap (λ numbers. (picture_of p tree (line_after tree f it.it.effect line) numbers x).asks_up (cond (takes_of top f) f.object.0 top)) (set_here f.line.0 it.step.now all l (sym own))
-            ∙ ap (λ line. (picture_of p tree (line_after tree f it.it.effect line) it.step.now x).asks_up (cond (takes_of top f) f.object.0 top)) (sym (line_is own))
+            (ap (λ numbers. (progress_of p tree (line_after tree f it.it.effect line) numbers x).asks_up (cond (takes_of top f) f.object.0 top)) (set_here f.line.0 it.step.now all l (sym own))
+            ∙ ap (λ line. (progress_of p tree (line_after tree f it.it.effect line) it.step.now x).asks_up (cond (takes_of top f) f.object.0 top)) (sym (line_is own))
             ∙ by_number (same_or_other it.n x))
             (under_rest among))
           where
@@ -180,14 +180,14 @@ climbs p tree owner (f ∷ h) s new all is_new past place l a x top line at ther
                 let is = (takes own same).1 (asks_up (under.only_up.0 same less)) in
                 record { kind = it.step.of.kind; rule = it.step.of.rule; kind_is = it.step.of.is.kind_is; named = it.step.of.named; template = it.step.of.template ∙ ap Ok is }
 
-            by_number : (it.n ≡ x) ⊎ (it.n ≢ x) → (picture_of p tree (line_after tree f it.it.effect it.it.line) it.step.now x).asks_up (cond (takes_of top f) f.object.0 top) ≡ true
+            by_number : (it.n ≡ x) ⊎ (it.n ≢ x) → (progress_of p tree (line_after tree f it.it.effect it.it.line) it.step.now x).asks_up (cond (takes_of top f) f.object.0 top) ≡ true
             by_number (inl same) =
-                ap (λ b. (picture_of p tree (line_after tree f it.it.effect it.it.line) it.step.now x).asks_up (cond b f.object.0 top)) (takes own same).0
-                ∙ ap (λ n. (picture_of p tree (line_after tree f it.it.effect it.it.line) it.step.now n).asks_up f.object.0) (sym same)
+                ap (λ b. (progress_of p tree (line_after tree f it.it.effect it.it.line) it.step.now x).asks_up (cond b f.object.0 top)) (takes own same).0
+                ∙ ap (λ n. (progress_of p tree (line_after tree f it.it.effect it.it.line) it.step.now n).asks_up f.object.0) (sym same)
                 ∙ asks_next p tree owner it.mid all is_new (λ y. y == place) past it.it.line f it.it.effect place it.n it.step (asks_up (under.only_up.0 same less))
             by_number (inr differs) =
                 let none : takes_of top f ≡ false = not_false (takes_of top f) (λ taken. differs (only_own_takes p tree owner it.mid all is_new (λ y. y == place) past it.it.line f it.it.effect place it.n x top it.step (asks_here own) taken)) in
-                ap (λ b. (picture_of p tree (line_after tree f it.it.effect it.it.line) it.step.now x).asks_up (cond b f.object.0 top)) none
+                ap (λ b. (progress_of p tree (line_after tree f it.it.effect it.it.line) it.step.now x).asks_up (cond b f.object.0 top)) none
                 ∙ ap (λ at. at.asks_up top) (it.step.others x (λ same. differs (sym same)))
                 ∙ asks_here own
 

@@ -11,7 +11,7 @@ use Rattle.hem_base.specs.declared.ids.Message.{Message}
 use Rattle.hem_template.specs.declared.template_name.TemplateName.{TemplateName}
 use Rattle.hem_template.specs.declared.template_name.TemplateName.TheVariants.{ImmDown, RqUp, RqUpDown}
 use Rattle.hem_syntax.specs.Protocol.{Protocol}
-use Rattle.hem_template.specs.Template as template
+use Rattle.hem_template.specs.declared.row.Taking as row
 use Rattle.hem_template.specs.Template.{row_of}
 use Rattle.hem_template.specs.declared.row.Taking.TheVariants.{NothingTaken, FromRequester, ParentRequest, ParentResponse, FromKids}
 use Rattle.hem_tree.specs.Tree.{Tree, is_child}
@@ -19,14 +19,14 @@ use Rattle.hem_fire.specs.declared.outs.Outs.{Outs}
 use Rattle.hem_system.specs.declared.lane.Lane.TheVariants.{UpRequests}
 use Rattle.hem_system.specs.State.{State, Line, Effect, list_at, takes, is_own_child, place_of_me, line_after}
 use Rattle.hem_trace.specs.Order.{Entry}
-use Rattle.hem_locks.specs.Acts.{IsNamed, takes_me}
+use Rattle.hem_rows.specs.Acts.{IsNamed, takes_me}
 use Rattle.hem_windows.specs.Pending.{takes_of}
 use Rattle.hem_windows.proofs.Pending.{child_named}
-use Rattle.hem_shape.specs.Picture.{Asker, child, processor, parent, itself, Picture}
+use Rattle.hem_shape.specs.Progress.{Asker, child, processor, parent, itself, Progress}
 use Rattle.hem_shape.specs.Move.{Taking, request, parent_answer, child_answers, Giving, answer, ask_up, ask_down, template_name, taken, recorded, given, CanTake}
 use Rattle.hem_shape.specs.Shape.{is_asking_up, AskedDownFor, HasShape}
 use Rattle.hem_shape.proofs.Spots.{set_here, true_false, and_both}
-use Rattle.hem_numbered.specs.Numbers.{Numbers, carries, is_any, picture_of}
+use Rattle.hem_numbered.specs.Numbers.{Numbers, carries, is_any, progress_of}
 use Rattle.hem_numbered.specs.Histories.{AreKnown}
 use Rattle.hem_numbered.proofs.TakesAs.{left, TakesAs, child_here}
 use Rattle.hem_numbered.proofs.Histories.{IsStep}
@@ -47,7 +47,7 @@ child_up c ask_up t named up = let is : RqUp ≡ t = cc in sym is
 child_up c (ask_down targets) t named up = let is : RqUpDown ≡ t = cc in let bad : false ≡ true = ap is_asking_up is ∙ up in cc
 
 -- what a firing of a transaction takes, one of whose requests is on its way up
-request_taken : (p : Protocol) (tree : Tree) (f : Firing) (t : TemplateName) (outs : Outs) (line : Line) (numbers : Numbers) (n top : ℕ) (asker : Asker) (takes : Taking) (gives : Giving) → HasShape tree (picture_of p tree line numbers n) → (picture_of p tree line numbers n).asks_up top ≡ true → template_name takes asker gives ≡ Some t → CanTake tree f.object.0 asker takes (picture_of p tree line numbers n) → TakesAs p tree f outs line numbers n asker takes → (takes_of top f ≡ true) × (is_asking_up t ≡ true → t ≡ RqUp)
+request_taken : (p : Protocol) (tree : Tree) (f : Firing) (t : TemplateName) (outs : Outs) (line : Line) (numbers : Numbers) (n top : ℕ) (asker : Asker) (takes : Taking) (gives : Giving) → HasShape tree (progress_of p tree line numbers n) → (progress_of p tree line numbers n).asks_up top ≡ true → template_name takes asker gives ≡ Some t → CanTake tree f.object.0 asker takes (progress_of p tree line numbers n) → TakesAs p tree f outs line numbers n asker takes → (takes_of top f ≡ true) × (is_asking_up t ≡ true → t ≡ RqUp)
 request_taken p tree f t outs line numbers n top (child c) request gives shape asks named can lists =
     (subst (λ k. takes_of k f ≡ true) ((shape.rising top asks).only c can.there) (by_test (takes tree f outs c UpRequests) refl), (λ up. child_up c gives t named up))
   where
@@ -55,16 +55,16 @@ request_taken p tree f t outs line numbers n top (child c) request gives shape a
     by_test true is = (and_both outs.taken_request (takes_of c f) (and_both (outs.taken_request && takes_of c f) (is_child tree c f.object.0) is).0).1
     by_test false is =
         let all : left is_any tree f outs line numbers n UpRequests c ≡ true = ap (λ b. carries is_any n (drop (cond b 1 0) (list_at line c UpRequests)) (drop (cond b 1 0) (numbers.lists c UpRequests))) is ∙ can.there in
-        absurd (true_false all (lists.asks_up c ∙ set_here c false (picture_of p tree line numbers n).asks_up c refl))
+        absurd (true_false all (lists.asks_up c ∙ set_here c false (progress_of p tree line numbers n).asks_up c refl))
 request_taken p tree f t outs line numbers n top parent request gives shape asks named can lists = absurd (true_false can.there ((shape.rising top asks).no_asks_down f.object.0))
 request_taken p tree f t outs line numbers n top processor request gives shape asks named can lists = absurd (true_false asks (can.asks_up top))
 request_taken p tree f t outs line numbers n top itself request gives shape asks named can lists = absurd (true_false asks (can.asks_up top))
 request_taken p tree f t outs line numbers n top asker parent_answer gives shape asks named can lists = absurd (true_false can.there ((shape.rising top asks).no_answers_down f.object.0))
 request_taken p tree f t outs line numbers n top asker child_answers gives shape asks named can lists =
-    absurd (asked_not_up asker ((picture_of p tree line numbers n).fired f.object.0) (shape.asked f.object.0 asker can.down) ((shape.rising top asks).upward f.object.0))
+    absurd (asked_not_up asker ((progress_of p tree line numbers n).fired f.object.0) (shape.asked f.object.0 asker can.down) ((shape.rising top asks).upward f.object.0))
 
 -- a firing that names a child takes the child's request
-named_takes : (kind : Kind) (taking : template.Taking) (me : Option ℕ) (c : ℕ) → me ≡ Some c → IsNamed kind taking me → takes_me taking ≡ true
+named_takes : (kind : Kind) (taking : row.Taking) (me : Option ℕ) (c : ℕ) → me ≡ Some c → IsNamed kind taking me → takes_me taking ≡ true
 named_takes kind FromRequester me c is named = refl
 named_takes Leaf NothingTaken me c is named = absurd (let bad : None ≡ Some c = sym named ∙ is in cc)
 named_takes Leaf ParentRequest me c is named = absurd (let bad : None ≡ Some c = sym named ∙ is in cc)
@@ -94,13 +94,13 @@ only_number (m ∷ []) (k ∷ ns) x n most there at =
 only_number (m ∷ (q ∷ ms)) (k ∷ ns) x n most there at = absurd (omega (arith, most))
 
 -- a firing of the transaction takes the request
-pub own_takes : (p : Protocol) (tree : Tree) (owner : ℕ → ℕ) (s mid : State) (all : ℕ → Numbers) (is_new first : ℕ → Bool) (past : List Entry) (line : Line) (f : Firing) (e : Effect) (place n top : ℕ) → AreKnown p tree owner s all is_new past → slice_get s f.line.0 ≡ Some line → (step : IsStep p tree owner line mid all is_new past f e place n first) → (picture_of p tree line (all f.line.0) n).asks_up top ≡ true → (takes_of top f ≡ true) × (is_asking_up step.of.t ≡ true → step.of.t ≡ RqUp)
+pub own_takes : (p : Protocol) (tree : Tree) (owner : ℕ → ℕ) (s mid : State) (all : ℕ → Numbers) (is_new first : ℕ → Bool) (past : List Entry) (line : Line) (f : Firing) (e : Effect) (place n top : ℕ) → AreKnown p tree owner s all is_new past → slice_get s f.line.0 ≡ Some line → (step : IsStep p tree owner line mid all is_new past f e place n first) → (progress_of p tree line (all f.line.0) n).asks_up top ≡ true → (takes_of top f ≡ true) × (is_asking_up step.of.t ≡ true → step.of.t ≡ RqUp)
 own_takes p tree owner s mid all is_new first past line f e place n top known at step asks =
     let move = step.move in
     request_taken p tree f step.of.t e.outs line (all f.line.0) n top move.asker move.takes move.gives ((known.numbers f.line.0 line at).shapes n) asks move.named move.taking.can move.taking.lists
 
 -- and only such a firing
-pub only_own_takes : (p : Protocol) (tree : Tree) (owner : ℕ → ℕ) (mid : State) (all : ℕ → Numbers) (is_new first : ℕ → Bool) (past : List Entry) (line : Line) (f : Firing) (e : Effect) (place n x top : ℕ) → (step : IsStep p tree owner line mid all is_new past f e place n first) → (picture_of p tree line (all f.line.0) x).asks_up top ≡ true → takes_of top f ≡ true → n ≡ x
+pub only_own_takes : (p : Protocol) (tree : Tree) (owner : ℕ → ℕ) (mid : State) (all : ℕ → Numbers) (is_new first : ℕ → Bool) (past : List Entry) (line : Line) (f : Firing) (e : Effect) (place n x top : ℕ) → (step : IsStep p tree owner line mid all is_new past f e place n first) → (progress_of p tree line (all f.line.0) x).asks_up top ≡ true → takes_of top f ≡ true → n ≡ x
 only_own_takes p tree owner mid all is_new first past line f e place n x top step asks taken =
     let named = child_named tree top f f.me refl taken in
     let of = step.of in
@@ -139,11 +139,11 @@ asks_on child_answers itself answer up = cc
 asks_on child_answers itself (ask_down targets) up = cc
 
 -- so its object's request is on its way up then
-pub asks_next : (p : Protocol) (tree : Tree) (owner : ℕ → ℕ) (mid : State) (all : ℕ → Numbers) (is_new first : ℕ → Bool) (past : List Entry) (line : Line) (f : Firing) (e : Effect) (place n : ℕ) → (step : IsStep p tree owner line mid all is_new past f e place n first) → is_asking_up step.of.t ≡ true → (picture_of p tree (line_after tree f e line) step.now n).asks_up f.object.0 ≡ true
+pub asks_next : (p : Protocol) (tree : Tree) (owner : ℕ → ℕ) (mid : State) (all : ℕ → Numbers) (is_new first : ℕ → Bool) (past : List Entry) (line : Line) (f : Firing) (e : Effect) (place n : ℕ) → (step : IsStep p tree owner line mid all is_new past f e place n first) → is_asking_up step.of.t ≡ true → (progress_of p tree (line_after tree f e line) step.now n).asks_up f.object.0 ≡ true
 asks_next p tree owner mid all is_new first past line f e place n step up =
     let move = step.move in
-    let at = picture_of p tree line (all f.line.0) n in
+    let at = progress_of p tree line (all f.line.0) n in
     let gives : move.gives ≡ ask_up = asks_on move.takes move.asker move.gives (ap (λ t. option_map_or is_asking_up t false) move.named ∙ up) in
-    ap (λ (x : Picture). x.asks_up f.object.0) step.moved
+    ap (λ (x : Progress). x.asks_up f.object.0) step.moved
     ∙ ap (λ g. (given f.object.0 move.asker g (recorded f.object.0 step.of.t (taken tree f.object.0 move.asker move.takes at))).asks_up f.object.0) gives
     ∙ set_here f.object.0 true (taken tree f.object.0 move.asker move.takes at).asks_up f.object.0 refl

@@ -18,14 +18,14 @@ use Rattle.hem_law.specs.Lines.{line_firings}
 use Rattle.hem_law.specs.Printed.{firings_in}
 use Rattle.hem_law.specs.Windows.{HasWholeWindows}
 use Rattle.hem_law.proofs.ListFacts.{each-map}
-use Rattle.hem_locks.specs.Acted.{AllHaveTemplates}
+use Rattle.hem_rows.specs.Rows.{AllHaveTemplates}
 use Rattle.hem_locks.specs.Allowed.{HasTemplate}
 use Rattle.hem_locks.proofs.States.{start-holds}
 use Rattle.hem_windows.proofs.Windows.{window_of}
-use Rattle.hem_shape.specs.Picture.{set_at}
+use Rattle.hem_shape.specs.Progress.{set_at}
 use Rattle.hem_shape.specs.Shape.{is_asking_up}
 use Rattle.hem_shape.proofs.Spots.{set_here, and_both}
-use Rattle.hem_numbered.specs.Numbers.{Numbers, no_numbers, picture_of}
+use Rattle.hem_numbered.specs.Numbers.{Numbers, no_numbers, progress_of}
 use Rattle.hem_numbered.proofs.Histories.{entry_by, upward_is}
 use Rattle.hem_numbered.proofs.OnlyUp.{rising_from}
 use Rattle.hem_numbered.proofs.Starts.{start_idle, known_start}
@@ -84,7 +84,7 @@ each_waits p tree owner (f ∷ h) s new all is_new past place es at only_up anch
         let to = anchor moved in
         let climb = climbs p tree owner h it.mid new (set_at f.line.0 it.step.now all) (λ y. is_new y && not (y == it.n)) (past ++ entry_by p tree place it.n f it.it.effect ∷ []) (place + 1) f.line.0 (anchor_of es it.n) it.n f.object.0 (line_after tree f it.it.effect it.it.line)
         it.rest (line_now p tree s it.mid f it.it) it.step.own_line
-        (ap (λ numbers. (picture_of p tree (line_after tree f it.it.effect it.it.line) numbers it.n).asks_up f.object.0) (set_here f.line.0 it.step.now all f.line.0 refl)
+        (ap (λ numbers. (progress_of p tree (line_after tree f it.it.effect it.it.line) numbers it.n).asks_up f.object.0) (set_here f.line.0 it.step.now all f.line.0 refl)
         ∙ asks_next p tree owner it.mid all is_new (λ y. y == place) past it.it.line f it.it.effect place it.n it.step asks)
         (record {
           only_up = each-map (OnlyUp es) (λ y. y.number ≡ it.n → y.place < anchor_of es it.n → y.upward ≡ true) rest (λ y up same less. up (subst (λ n. y.place < anchor_of es n) (sym same) less)) only;

@@ -4,8 +4,8 @@ use Rattle.hem_base.specs.declared.ids.Kind.{Kind}
 use Rattle.hem_syntax.specs.declared.rule.Rule.{Rule}
 use Rattle.hem_syntax.specs.Protocol.{Protocol}
 use Rattle.hem_template.specs.Template.{template_of}
-use Rattle.hem_trace.specs.Order.{is_upward_template}
-use Rattle.hem_law.specs.Stable.{first_unstable}
+use Rattle.hem_template.specs.Waiting.{is_upward_template}
+use Rattle.hem_abstract.specs.Stable.{first_unstable}
 
 -- whether no upward request among these rules has a breach
 abbrev pub have_no_breach : Protocol → Kind → List Rule → Bool

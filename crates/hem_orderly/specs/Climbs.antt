@@ -8,7 +8,7 @@ use Rattle.hem_trace.specs.Blocks.{Each}
 use Rattle.hem_trace.specs.Order.{Entry}
 use Rattle.hem_law.specs.Lines.{line_firings}
 use Rattle.hem_law.specs.Printed.{firings_in}
-use Rattle.hem_law.specs.Windows.{template_at}
+use Rattle.hem_trace.specs.Templates.{template_at}
 use Rattle.hem_windows.specs.Pending.{takes_of, top_after, SendsOn}
 use Rattle.hem_orderly.specs.Anchors.{IsIn}
 

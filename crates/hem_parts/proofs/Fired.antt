@@ -17,7 +17,7 @@ use Rattle.hem_system.proofs.Kids.{at_passes}
 use Rattle.hem_system.proofs.TakenHeads.{own_effect-enough}
 use Rattle.hem_trace.specs.History.{head_seen}
 use Rattle.hem_law.specs.Chains.{heads_seen, ChainStep}
-use Rattle.hem_law.proofs.Inverted.{both}
+use Rattle.hem_rows.proofs.Choices.{both}
 use Rattle.hem_law.proofs.OwnEffect.{own_effect-took}
 use Rattle.hem_law.proofs.LineParts.{slice_get-map_each, length-map_each}
 use Rattle.hem_law.proofs.AllLines.{same_elements}

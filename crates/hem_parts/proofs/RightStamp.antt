@@ -14,7 +14,7 @@ use Rattle.hem_system.specs.State.{takes}
 use Rattle.hem_system.proofs.Kids.{child_at}
 use Rattle.hem_trace.specs.History.{Event, Channel, channels_taken}
 use Rattle.hem_trace.specs.Blocks.{Each}
-use Rattle.hem_law.proofs.Inverted.{both}
+use Rattle.hem_rows.proofs.Choices.{both}
 use Rattle.hem_law.proofs.ListFacts.{each-map}
 use Rattle.hem_law.proofs.TakenChannels.{NamesOwnChild, IsTakenFrom, channels-taken}
 use Rattle.hem_parts.specs.Stamps.{first_stamp, IsStamp}

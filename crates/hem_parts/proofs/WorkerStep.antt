@@ -17,7 +17,7 @@ use Rattle.hem_system.specs.declared.lane.Lane.{Lane}
 use Rattle.hem_system.specs.declared.lane.Lane.TheVariants.{UpRequests, UpResponses, Down, Requests, Answers}
 use Rattle.hem_system.specs.State.{Effect, own_effect, takes}
 use Rattle.hem_trace.specs.History.{head_seen}
-use Rattle.hem_law.proofs.Inverted.{both}
+use Rattle.hem_rows.proofs.Choices.{both}
 use Rattle.hem_law.proofs.Taken.{HasMessage, takes-there, kid-at}
 use Rattle.hem_parts.specs.Parts.{Part, messages_of}
 use Rattle.hem_parts.specs.Stamps.{first_stamp, IsStamp, last_stamp}

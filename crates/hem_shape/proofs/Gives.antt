@@ -4,7 +4,7 @@ use Rattle.std.specs.List.{list_all}
 use Rattle.hem_template.specs.declared.template_name.TemplateName.{TemplateName}
 use Rattle.hem_tree.specs.Tree.{Tree, is_child}
 use Rattle.hem_shape.specs.Subtree.{InSubtree}
-use Rattle.hem_shape.specs.Picture.{Asker, child, processor, parent, itself, Picture, set_at}
+use Rattle.hem_shape.specs.Progress.{Asker, child, processor, parent, itself, Progress, set_at}
 use Rattle.hem_shape.specs.Move.{answer, given, recorded}
 use Rattle.hem_shape.specs.Shape.{HasShape, IsHeld, IsHeldAbove, WaitsAbove, IsUntouchedBut, AskedDownFor, asked_up_for, is_asking_up}
 use Rattle.hem_shape.proofs.Subtrees.{child_parent, in_own}
@@ -12,7 +12,7 @@ use Rattle.hem_shape.proofs.Spots.{same_or_other, set_here, set_there, set_cases
 use Rattle.hem_shape.proofs.Ready.{IsReady, StillWaits, held_more}
 
 -- nothing is given
-ready_shape : (tree : Tree) (at : Picture) (o : ℕ) → IsReady tree at o → HasShape tree at
+ready_shape : (tree : Tree) (at : Progress) (o : ℕ) → IsReady tree at o → HasShape tree at
 ready_shape tree at o ready =
     record {
       below = ready.below;
@@ -24,7 +24,7 @@ ready_shape tree at o ready =
     }
 
 -- the answer to whoever asked
-pub answer_given : (tree : Tree) (at : Picture) (o : ℕ) (asker : Asker) → IsReady tree at o → StillWaits tree at.up at.down o asker → HasShape tree (given o asker answer at)
+pub answer_given : (tree : Tree) (at : Progress) (o : ℕ) (asker : Asker) → IsReady tree at o → StillWaits tree at.up at.down o asker → HasShape tree (given o asker answer at)
 answer_given tree at o processor ready waits = ready_shape tree at o ready
 answer_given tree at o itself ready waits = ready_shape tree at o ready
 answer_given tree at o (child c) ready waits =
@@ -56,7 +56,7 @@ answer_given tree at o parent ready waits =
     }
 
 -- a transaction with nothing on its way, that has only sent upward, and only below o
-pub record IsOnlyBelow (tree : Tree) (at : Picture) (o : ℕ) : Type 0 where
+pub record IsOnlyBelow (tree : Tree) (at : Progress) (o : ℕ) : Type 0 where
   pub no_answers_up : (k : ℕ) → at.answers_up k ≡ false
   pub no_asks_down : (k : ℕ) → at.asks_down k ≡ false
   pub no_answers_down : (k : ℕ) → at.answers_down k ≡ false
@@ -64,7 +64,7 @@ pub record IsOnlyBelow (tree : Tree) (at : Picture) (o : ℕ) : Type 0 where
   pub upward : (k : ℕ) → list_all is_asking_up (at.fired k) ≡ true
 
 -- a request to the parent
-pub request_given : (tree : Tree) (at : Picture) (o : ℕ) (asker : Asker) → IsReady tree at o → StillWaits tree at.up at.down o asker → IsOnlyBelow tree at o → at.fired o ≡ asked_up_for asker → IsUntouchedBut tree at.fired o asker → ((c : ℕ) → asker ≡ child c → is_child tree c o ≡ true) → HasShape tree (record at { asks_up = set_at o true at.asks_up; up = set_at o (Some asker) at.up })
+pub request_given : (tree : Tree) (at : Progress) (o : ℕ) (asker : Asker) → IsReady tree at o → StillWaits tree at.up at.down o asker → IsOnlyBelow tree at o → at.fired o ≡ asked_up_for asker → IsUntouchedBut tree at.fired o asker → ((c : ℕ) → asker ≡ child c → is_child tree c o ≡ true) → HasShape tree (record at { asks_up = set_at o true at.asks_up; up = set_at o (Some asker) at.up })
 request_given tree at o asker ready waits only fired but own =
     record {
       below = record {
@@ -99,7 +99,7 @@ above_more : (tree : Tree) (o : ℕ) (asker : Asker) (down : ℕ → Option Aske
 above_more tree o asker down k held = record { high = held.high; above = held.above; lock = held_more o asker down held.high held.lock }
 
 -- requests to children
-pub requests_given : (tree : Tree) (at : Picture) (o : ℕ) (asker : Asker) (targets : ℕ → Bool) → IsReady tree at o → StillWaits tree at.up at.down o asker → AskedDownFor asker (at.fired o) → ((k : ℕ) → targets k ≡ true → is_child tree k o ≡ true) → ((d k : ℕ) → targets d ≡ true → InSubtree tree k d → at.fired k ≡ []) → HasShape tree (record at { asks_down = λ k. at.asks_down k || targets k; down = set_at o (Some asker) at.down })
+pub requests_given : (tree : Tree) (at : Progress) (o : ℕ) (asker : Asker) (targets : ℕ → Bool) → IsReady tree at o → StillWaits tree at.up at.down o asker → AskedDownFor asker (at.fired o) → ((k : ℕ) → targets k ≡ true → is_child tree k o ≡ true) → ((d k : ℕ) → targets d ≡ true → InSubtree tree k d → at.fired k ≡ []) → HasShape tree (record at { asks_down = λ k. at.asks_down k || targets k; down = set_at o (Some asker) at.down })
 requests_given tree at o asker targets ready waits fired own new_ones =
     record {
       below = record {
@@ -133,7 +133,7 @@ requests_given tree at o asker targets ready waits fired own new_ones =
     }
 
 -- one request upward more
-pub only_more : (tree : Tree) (at : Picture) (o : ℕ) (t : TemplateName) → IsOnlyBelow tree at o → at.fired o ≡ [] → is_asking_up t ≡ true → IsOnlyBelow tree (recorded o t at) o
+pub only_more : (tree : Tree) (at : Progress) (o : ℕ) (t : TemplateName) → IsOnlyBelow tree at o → at.fired o ≡ [] → is_asking_up t ≡ true → IsOnlyBelow tree (recorded o t at) o
 only_more tree at o t only none up =
     let now = at.fired o ++ t ∷ [] in
     record {

@@ -6,8 +6,8 @@ use Rattle.hem_tree.specs.Tree.{Tree, IsLawful, is_child}
 use Rattle.hem_tree.proofs.Paths.{IsEarly}
 use Rattle.hem_tree.proofs.Early.{lawful_early}
 use Rattle.hem_shape.specs.Subtree.{InSubtree}
-use Rattle.hem_shape.specs.Picture.{Asker, child, processor, parent, itself, Picture, set_at}
-use Rattle.hem_shape.specs.Move.{Taking, request, parent_answer, child_answers, Giving, answer, ask_up, ask_down, Move, CanTake, CanTakeChild, CanGive, CanMove, template_name, taken, recorded, given, picture_after}
+use Rattle.hem_shape.specs.Progress.{Asker, child, processor, parent, itself, Progress, set_at}
+use Rattle.hem_shape.specs.Move.{Taking, request, parent_answer, child_answers, Giving, answer, ask_up, ask_down, Move, CanTake, CanTakeChild, CanGive, CanMove, template_name, taken, recorded, given, progress_after}
 use Rattle.hem_shape.specs.Shape.{HasShape, IsUntouchedBut, AskedDownFor, asked_up_for, is_asking_up}
 use Rattle.hem_shape.proofs.Subtrees.{child_parent, in_parents, not_in_child, one_branch}
 use Rattle.hem_shape.proofs.Spots.{set_here, set_there}
@@ -16,11 +16,11 @@ use Rattle.hem_shape.proofs.Gives.{IsOnlyBelow, answer_given, request_given, req
 use Rattle.hem_shape.proofs.Takes.{child_taken, child_fired, child_waits, child_untouched, child_only, parent_taken, parent_fired, parent_waits, parent_untouched, start_taken, start_only, start_untouched, start_waits, answer_taken, answer_waits, answers_taken, answers_waits}
 
 -- a firing that answers
-answered : (tree : Tree) (at : Picture) (o : ℕ) (asker : Asker) (t : TemplateName) → IsReady tree at o → StillWaits tree at.up at.down o asker → HasShape tree (given o asker answer (recorded o t at))
+answered : (tree : Tree) (at : Progress) (o : ℕ) (asker : Asker) (t : TemplateName) → IsReady tree at o → StillWaits tree at.up at.down o asker → HasShape tree (given o asker answer (recorded o t at))
 answered tree at o asker t ready waits = answer_given tree (recorded o t at) o asker (recorded_ready tree at o t ready) waits
 
 -- a firing that asks the parent
-asked_up : (tree : Tree) (at : Picture) (o : ℕ) (asker : Asker) (t : TemplateName) → IsReady tree at o → StillWaits tree at.up at.down o asker → IsOnlyBelow tree at o → at.fired o ≡ [] → t ∷ [] ≡ asked_up_for asker → is_asking_up t ≡ true → IsUntouchedBut tree at.fired o asker → ((c : ℕ) → asker ≡ child c → is_child tree c o ≡ true) → HasShape tree (record (recorded o t at) { asks_up = set_at o true at.asks_up; up = set_at o (Some asker) at.up })
+asked_up : (tree : Tree) (at : Progress) (o : ℕ) (asker : Asker) (t : TemplateName) → IsReady tree at o → StillWaits tree at.up at.down o asker → IsOnlyBelow tree at o → at.fired o ≡ [] → t ∷ [] ≡ asked_up_for asker → is_asking_up t ≡ true → IsUntouchedBut tree at.fired o asker → ((c : ℕ) → asker ≡ child c → is_child tree c o ≡ true) → HasShape tree (record (recorded o t at) { asks_up = set_at o true at.asks_up; up = set_at o (Some asker) at.up })
 asked_up tree at o asker t ready waits only none first up but own =
     let now = at.fired o ++ t ∷ [] in
     request_given tree (recorded o t at) o asker (recorded_ready tree at o t ready) waits (only_more tree at o t only none up)
@@ -28,7 +28,7 @@ asked_up tree at o asker t ready waits only none first up but own =
     (untouched_more tree o now at.fired asker but) own
 
 -- a firing that asks children
-asked_down : (tree : Tree) → IsEarly tree → (at : Picture) (o : ℕ) (asker : Asker) (t : TemplateName) (targets : ℕ → Bool) → IsReady tree at o → StillWaits tree at.up at.down o asker → AskedDownFor asker (at.fired o ++ t ∷ []) → IsUntouchedBut tree at.fired o asker → ((c : ℕ) → asker ≡ child c → is_child tree c o ≡ true) → CanGive tree o asker (ask_down targets) → HasShape tree (record (recorded o t at) { asks_down = λ k. at.asks_down k || targets k; down = set_at o (Some asker) at.down })
+asked_down : (tree : Tree) → IsEarly tree → (at : Progress) (o : ℕ) (asker : Asker) (t : TemplateName) (targets : ℕ → Bool) → IsReady tree at o → StillWaits tree at.up at.down o asker → AskedDownFor asker (at.fired o ++ t ∷ []) → IsUntouchedBut tree at.fired o asker → ((c : ℕ) → asker ≡ child c → is_child tree c o ≡ true) → CanGive tree o asker (ask_down targets) → HasShape tree (record (recorded o t at) { asks_down = λ k. at.asks_down k || targets k; down = set_at o (Some asker) at.down })
 asked_down tree early at o asker t targets ready waits fired but own can =
     let now = at.fired o ++ t ∷ [] in
     requests_given tree (recorded o t at) o asker targets (recorded_ready tree at o t ready) waits
@@ -48,17 +48,17 @@ after : (fired : List TemplateName) (t : TemplateName) (before : List TemplateNa
 after fired t before s one other = ap (λ fired. fired ++ t ∷ []) one ∙ ap (λ t. before ++ t ∷ []) other
 
 -- a child that asked is one's own
-child_own : (tree : Tree) (at : Picture) (o c : ℕ) → CanTakeChild tree o c at → (d : ℕ) → child c ≡ child d → is_child tree d o ≡ true
+child_own : (tree : Tree) (at : Progress) (o c : ℕ) → CanTakeChild tree o c at → (d : ℕ) → child c ≡ child d → is_child tree d o ≡ true
 child_own tree at o c can d is = let same : c ≡ d = cc in subst (λ j. is_child tree j o ≡ true) same can.own
 
 -- where a child's request has been taken nothing is on its way
-child_sent : (tree : Tree) (at : Picture) (o c : ℕ) → HasShape tree at → CanTakeChild tree o c at → IsOnlyBelow tree (taken tree o (child c) request at) o
+child_sent : (tree : Tree) (at : Progress) (o c : ℕ) → HasShape tree at → CanTakeChild tree o c at → IsOnlyBelow tree (taken tree o (child c) request at) o
 child_sent tree at o c shape can =
     let only = child_only tree at o c shape can in
     record { no_answers_up = only.no_answers_up; no_asks_down = only.no_asks_down; no_answers_down = only.no_answers_down; within = only.within; upward = only.upward }
 
 -- a firing that answers, whatever it takes, and one that asks, by what it takes
-kept : (tree : Tree) → IsEarly tree → (o : ℕ) (asker : Asker) (takes : Taking) (gives : Giving) (t : TemplateName) (at : Picture) → HasShape tree at → template_name takes asker gives ≡ Some t → CanTake tree o asker takes at → CanGive tree o asker gives → HasShape tree (given o asker gives (recorded o t (taken tree o asker takes at)))
+kept : (tree : Tree) → IsEarly tree → (o : ℕ) (asker : Asker) (takes : Taking) (gives : Giving) (t : TemplateName) (at : Progress) → HasShape tree at → template_name takes asker gives ≡ Some t → CanTake tree o asker takes at → CanGive tree o asker gives → HasShape tree (given o asker gives (recorded o t (taken tree o asker takes at)))
 kept tree early o (child c) request answer t at shape named can to = answered tree (taken tree o (child c) request at) o (child c) t (child_taken tree early at o c shape can) (child_waits tree at o c shape can)
 kept tree early o parent request answer t at shape named can to = answered tree (taken tree o parent request at) o parent t (parent_taken tree early at o shape can) (parent_waits tree at o shape can)
 kept tree early o processor request answer t at shape named can to = answered tree at o processor t (start_taken tree at o shape can) (start_waits tree at o processor (λ c is. cc) (λ is. cc))
@@ -110,5 +110,5 @@ kept tree early o parent child_answers answer t at shape named can to = answered
 kept tree early o itself child_answers answer t at shape named can to = answered tree (taken tree o itself child_answers at) o itself t (answers_taken tree at o itself shape can) (answers_waits tree early at o itself shape can)
 kept tree early o _ _ _ t at shape named can to = absurd (let bad : None ≡ Some t = named in cc)
 
-pub shape_kept : (tree : Tree) (m : Move) (t : TemplateName) (at : Picture) → IsLawful tree → HasShape tree at → CanMove tree m t at → HasShape tree (picture_after tree m t at)
+pub shape_kept : (tree : Tree) (m : Move) (t : TemplateName) (at : Progress) → IsLawful tree → HasShape tree at → CanMove tree m t at → HasShape tree (progress_after tree m t at)
 shape_kept tree m t at law shape can = kept tree (lawful_early tree law) m.object m.asker m.takes m.gives t at shape can.named can.takes can.gives

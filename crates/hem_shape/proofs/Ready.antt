@@ -4,13 +4,13 @@ use Rattle.std.specs.List.{list_all}
 use Rattle.hem_template.specs.declared.template_name.TemplateName.{TemplateName}
 use Rattle.hem_tree.specs.Tree.{Tree}
 use Rattle.hem_shape.specs.Subtree.{InSubtree}
-use Rattle.hem_shape.specs.Picture.{Asker, child, processor, parent, itself, Picture, set_at}
+use Rattle.hem_shape.specs.Progress.{Asker, child, processor, parent, itself, Progress, set_at}
 use Rattle.hem_shape.specs.Move.{recorded}
 use Rattle.hem_shape.specs.Shape.{IsHeld, IsHeldAbove, BelongsBelow, BelongsAbove, WaitsAbove, IsUntouchedBut, AskedDownFor, asked_up_for, is_asking_up}
 use Rattle.hem_shape.proofs.Spots.{same_or_other, set_here, set_there}
 
 -- what a firing has taken leaves its object without locks and nothing on the way up; and no request and no lock elsewhere forbids the firing
-pub record IsReady (tree : Tree) (at : Picture) (o : ℕ) : Type 0 where
+pub record IsReady (tree : Tree) (at : Progress) (o : ℕ) : Type 0 where
   pub below : BelongsBelow at
   pub above : BelongsAbove tree at
   pub not_rising : (k : ℕ) → at.asks_up k ≡ false
@@ -91,7 +91,7 @@ pub untouched_more : (tree : Tree) (o : ℕ) (now : List TemplateName) (fired : 
 untouched_more tree o now fired asker but k within other some = but k within other (λ none. some (set_there o now fired k other ∙ none))
 
 -- a firing at an object that is ready
-pub recorded_ready : (tree : Tree) (at : Picture) (o : ℕ) (t : TemplateName) → IsReady tree at o → IsReady tree (recorded o t at) o
+pub recorded_ready : (tree : Tree) (at : Progress) (o : ℕ) (t : TemplateName) → IsReady tree at o → IsReady tree (recorded o t at) o
 recorded_ready tree at o t ready =
     let now = at.fired o ++ t ∷ [] in
     record {

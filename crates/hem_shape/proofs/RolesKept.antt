@@ -5,15 +5,15 @@ use Rattle.hem_template.specs.declared.template_name.TemplateName.TheVariants.{I
 use Rattle.hem_tree.specs.Tree.{Tree, IsLawful}
 use Rattle.hem_tree.proofs.Paths.{IsEarly}
 use Rattle.hem_tree.proofs.Early.{lawful_early}
-use Rattle.hem_shape.specs.Picture.{Asker, child, processor, parent, itself, Picture, IsBlank}
-use Rattle.hem_shape.specs.Move.{Taking, request, parent_answer, child_answers, Giving, answer, ask_up, ask_down, Move, CanTake, CanMove, template_name, picture_after}
+use Rattle.hem_shape.specs.Progress.{Asker, child, processor, parent, itself, Progress, IsBlank}
+use Rattle.hem_shape.specs.Move.{Taking, request, parent_answer, child_answers, Giving, answer, ask_up, ask_down, Move, CanTake, CanMove, template_name, progress_after}
 use Rattle.hem_shape.specs.Shape.{HasShape, AskedDownFor}
 use Rattle.hem_shape.specs.Roles.{begins_role, follows, goes_on, is_role, HasRoles, IsBeside}
 use Rattle.hem_shape.proofs.Subtrees.{child_parent}
 use Rattle.hem_shape.proofs.Spots.{same_or_other, set_here, set_there, and_both}
 use Rattle.hem_shape.proofs.Ready.{up_fired, down_fired}
 use Rattle.hem_shape.proofs.Takes.{child_fired, parent_fired}
-use Rattle.hem_shape.proofs.Stories.{fired_after}
+use Rattle.hem_shape.proofs.Phases.{fired_after}
 
 -- how many templates can follow at most
 abbrev rank : TemplateName → ℕ
@@ -65,7 +65,7 @@ role_from : (fired before : List TemplateName) (t s : TemplateName) → fired �
 role_from fired before t s one other is = ap (λ fired. is_role (fired ++ t ∷ [])) one ∙ ap (λ t. is_role (before ++ t ∷ [])) other ∙ is
 
 -- the role at the firing's object
-role_now : (tree : Tree) → IsEarly tree → (o : ℕ) (asker : Asker) (takes : Taking) (gives : Giving) (t : TemplateName) (at : Picture) → HasShape tree at → template_name takes asker gives ≡ Some t → CanTake tree o asker takes at → is_role (at.fired o ++ t ∷ []) ≡ true
+role_now : (tree : Tree) → IsEarly tree → (o : ℕ) (asker : Asker) (takes : Taking) (gives : Giving) (t : TemplateName) (at : Progress) → HasShape tree at → template_name takes asker gives ≡ Some t → CanTake tree o asker takes at → is_role (at.fired o ++ t ∷ []) ≡ true
 role_now tree early o (child c) request answer t at shape named can = role_from (at.fired o) [] t ImmDown (child_fired tree early at o c shape can) (let is : t ≡ ImmDown = cc in is) refl
 role_now tree early o (child c) request ask_up t at shape named can = role_from (at.fired o) [] t RqUp (child_fired tree early at o c shape can) (let is : t ≡ RqUp = cc in is) refl
 role_now tree early o (child c) request (ask_down targets) t at shape named can = role_from (at.fired o) [] t RqUpDown (child_fired tree early at o c shape can) (let is : t ≡ RqUpDown = cc in is) refl
@@ -96,7 +96,7 @@ role_now tree early o parent child_answers answer t at shape named can = role_fr
 role_now tree early o itself child_answers answer t at shape named can = role_from (at.fired o) (RqDownSelf ∷ []) t RsUpSelf (shape.asked o itself can.down) (let is : t ≡ RsUpSelf = cc in is) refl
 role_now tree early o _ _ _ t at shape named can = absurd (let bad : None ≡ Some t = named in cc)
 
-pub roles_kept : (tree : Tree) (m : Move) (t : TemplateName) (at : Picture) → IsLawful tree → HasShape tree at → CanMove tree m t at → HasRoles at → HasRoles (picture_after tree m t at)
+pub roles_kept : (tree : Tree) (m : Move) (t : TemplateName) (at : Progress) → IsLawful tree → HasShape tree at → CanMove tree m t at → HasRoles at → HasRoles (progress_after tree m t at)
 roles_kept tree m t at lawful shape can roles =
     let now = at.fired m.object ++ t ∷ [] in
     record {
@@ -107,7 +107,7 @@ roles_kept tree m t at lawful shape can roles =
     }
 
 -- where a firing goes on, the transaction has fired there or beside
-beside : (tree : Tree) (o : ℕ) (asker : Asker) (takes : Taking) (at : Picture) → HasShape tree at → CanTake tree o asker takes at → IsBlank at ⊎ IsBeside tree at o
+beside : (tree : Tree) (o : ℕ) (asker : Asker) (takes : Taking) (at : Progress) → HasShape tree at → CanTake tree o asker takes at → IsBlank at ⊎ IsBeside tree at o
 beside tree o (child c) request at shape can =
     let held = shape.below.asks_up c can.there in
     inr (inr (inl (c, child_parent tree c o can.own, up_fired held.asker (at.fired c) (shape.waits c held.asker held.held).asked)))
@@ -119,5 +119,5 @@ beside tree o itself request at shape can = inl can
 beside tree o asker parent_answer at shape can = inr (inl (up_fired asker (at.fired o) (shape.waits o asker can.up).asked))
 beside tree o asker child_answers at shape can = inr (inl (down_fired asker (at.fired o) (shape.asked o asker can.down)))
 
-pub goes_on_beside : (tree : Tree) (m : Move) (t : TemplateName) (at : Picture) → HasShape tree at → CanMove tree m t at → IsBlank at ⊎ IsBeside tree at m.object
+pub goes_on_beside : (tree : Tree) (m : Move) (t : TemplateName) (at : Progress) → HasShape tree at → CanMove tree m t at → IsBlank at ⊎ IsBeside tree at m.object
 goes_on_beside tree m t at shape can = beside tree m.object m.asker m.takes at shape can.takes

@@ -5,14 +5,14 @@ use Rattle.hem_template.specs.declared.template_name.TemplateName.{TemplateName}
 use Rattle.hem_tree.specs.Tree.{Tree, parent_of, IsLawful}
 use Rattle.hem_tree.proofs.Paths.{IsEarly}
 use Rattle.hem_tree.proofs.Early.{lawful_early}
-use Rattle.hem_shape.specs.Picture.{Asker, child, processor, parent, itself, Picture}
-use Rattle.hem_shape.specs.Move.{Taking, request, parent_answer, child_answers, Move, CanTake, CanMove, picture_after}
+use Rattle.hem_shape.specs.Progress.{Asker, child, processor, parent, itself, Progress}
+use Rattle.hem_shape.specs.Move.{Taking, request, parent_answer, child_answers, Move, CanTake, CanMove, progress_after}
 use Rattle.hem_shape.specs.Shape.{HasShape}
 use Rattle.hem_shape.specs.Ways.{IsAmong, GoesUp, GoesDown, HasWays}
 use Rattle.hem_shape.proofs.Subtrees.{child_parent, child_in, in_early, child_in_child, parent_other}
 use Rattle.hem_shape.proofs.Ready.{empty_or, up_fired, down_fired}
 use Rattle.hem_shape.proofs.Takes.{child_fired, parent_fired}
-use Rattle.hem_shape.proofs.Stories.{fired_still, fired_now, fired_was}
+use Rattle.hem_shape.proofs.Phases.{fired_still, fired_now, fired_was}
 
 -- among one more
 among_more : (moves : List Move) (m x : Move) → IsAmong moves x → IsAmong (moves ++ m ∷ []) x
@@ -50,7 +50,7 @@ down_more : (moves : List Move) (m : Move) (o : ℕ) → GoesDown moves o → Go
 down_more moves m o goes = record { move = goes.move; among = among_more moves m goes.move goes.among; object = goes.object; takes = goes.takes; asker = goes.asker }
 
 -- a request is taken only where nothing has been fired
-pub request_first : (tree : Tree) → IsEarly tree → (o : ℕ) (asker : Asker) (takes : Taking) (at : Picture) → HasShape tree at → CanTake tree o asker takes at → takes ≡ request → at.fired o ≡ []
+pub request_first : (tree : Tree) → IsEarly tree → (o : ℕ) (asker : Asker) (takes : Taking) (at : Progress) → HasShape tree at → CanTake tree o asker takes at → takes ≡ request → at.fired o ≡ []
 request_first tree early o (child c) request at shape can is = child_fired tree early at o c shape can
 request_first tree early o parent request at shape can is = parent_fired tree at o shape can
 request_first tree early o processor request at shape can is = can.fired o
@@ -59,7 +59,7 @@ request_first tree early o asker parent_answer at shape can is = absurd (let bad
 request_first tree early o asker child_answers at shape can is = absurd (let bad : child_answers ≡ request = is in cc)
 
 -- an object at which a transaction fires first, below one at which it has fired, takes the parent's request
-pub from_above : (tree : Tree) → IsEarly tree → (o high : ℕ) (asker : Asker) (takes : Taking) (at : Picture) → HasShape tree at → CanTake tree o asker takes at → parent_of tree o ≡ Some high → at.fired o ≡ [] → at.fired high ≢ [] → (takes ≡ request) × (asker ≡ parent)
+pub from_above : (tree : Tree) → IsEarly tree → (o high : ℕ) (asker : Asker) (takes : Taking) (at : Progress) → HasShape tree at → CanTake tree o asker takes at → parent_of tree o ≡ Some high → at.fired o ≡ [] → at.fired high ≢ [] → (takes ≡ request) × (asker ≡ parent)
 from_above tree early o high (child c) request at shape can above first some =
     let below = child_parent tree c o can.own in
     let within = in_early tree early high c ((shape.rising c can.there).within high some) in
@@ -73,7 +73,7 @@ from_above tree early o high asker parent_answer at shape can above first some =
 from_above tree early o high asker child_answers at shape can above first some = absurd (down_fired asker (at.fired o) (shape.asked o asker can.down) first)
 
 -- an object at which a transaction fires first, above one at which it has fired, takes that one's request
-pub from_below : (tree : Tree) → IsEarly tree → (o high : ℕ) (asker : Asker) (takes : Taking) (at : Picture) → HasShape tree at → CanTake tree high asker takes at → parent_of tree o ≡ Some high → at.fired high ≡ [] → at.fired o ≢ [] → (takes ≡ request) × (asker ≡ child o)
+pub from_below : (tree : Tree) → IsEarly tree → (o high : ℕ) (asker : Asker) (takes : Taking) (at : Progress) → HasShape tree at → CanTake tree high asker takes at → parent_of tree o ≡ Some high → at.fired high ≡ [] → at.fired o ≢ [] → (takes ≡ request) × (asker ≡ child o)
 from_below tree early o high (child c) request at shape can above first some =
     let within = (shape.rising c can.there).within o some in
     (refl, ap child (sym (child_in_child tree early o c high above (child_parent tree c high can.own) within)))
@@ -84,7 +84,7 @@ from_below tree early o high asker parent_answer at shape can above first some =
 from_below tree early o high asker child_answers at shape can above first some = absurd (down_fired asker (at.fired high) (shape.asked high asker can.down) first)
 
 -- the child that asked has fired, and the parent that asked
-asker_fired : (tree : Tree) (o c : ℕ) (asker : Asker) (takes : Taking) (at : Picture) → HasShape tree at → CanTake tree o asker takes at → takes ≡ request → asker ≡ child c → at.fired c ≢ []
+asker_fired : (tree : Tree) (o c : ℕ) (asker : Asker) (takes : Taking) (at : Progress) → HasShape tree at → CanTake tree o asker takes at → takes ≡ request → asker ≡ child c → at.fired c ≢ []
 asker_fired tree o c (child d) request at shape can is asks =
     let held = shape.below.asks_up d can.there in
     subst (λ c. at.fired c ≢ []) (let same : d ≡ c = cc in same) (up_fired held.asker (at.fired d) (shape.waits d held.asker held.held).asked)
@@ -94,7 +94,7 @@ asker_fired tree o c itself request at shape can is asks = absurd (let bad : its
 asker_fired tree o c asker parent_answer at shape can is asks = absurd (let bad : parent_answer ≡ request = is in cc)
 asker_fired tree o c asker child_answers at shape can is asks = absurd (let bad : child_answers ≡ request = is in cc)
 
-above_fired : (tree : Tree) (o high : ℕ) (asker : Asker) (takes : Taking) (at : Picture) → HasShape tree at → CanTake tree o asker takes at → parent_of tree o ≡ Some high → takes ≡ request → asker ≡ parent → at.fired high ≢ []
+above_fired : (tree : Tree) (o high : ℕ) (asker : Asker) (takes : Taking) (at : Progress) → HasShape tree at → CanTake tree o asker takes at → parent_of tree o ≡ Some high → takes ≡ request → asker ≡ parent → at.fired high ≢ []
 above_fired tree o high parent request at shape can above is asks =
     let held = shape.above.asks_down o can.there in
     subst (λ h. at.fired h ≢ []) (let same : held.high ≡ high = (let both : Some held.high ≡ Some high = sym held.above ∙ above in cc) in same) (down_fired held.lock.asker (at.fired held.high) (shape.asked held.high held.lock.asker held.lock.held))
@@ -104,7 +104,7 @@ above_fired tree o high itself request at shape can above is asks = absurd (let 
 above_fired tree o high asker parent_answer at shape can above is asks = absurd (let bad : parent_answer ≡ request = is in cc)
 above_fired tree o high asker child_answers at shape can above is asks = absurd (let bad : child_answers ≡ request = is in cc)
 
-pub ways_kept : (tree : Tree) (m : Move) (t : TemplateName) (at : Picture) (moves : List Move) → IsLawful tree → HasShape tree at → CanMove tree m t at → HasWays tree at moves → HasWays tree (picture_after tree m t at) (moves ++ m ∷ [])
+pub ways_kept : (tree : Tree) (m : Move) (t : TemplateName) (at : Progress) (moves : List Move) → IsLawful tree → HasShape tree at → CanMove tree m t at → HasWays tree at moves → HasWays tree (progress_after tree m t at) (moves ++ m ∷ [])
 ways_kept tree m t at moves lawful shape can ways =
     let early = lawful_early tree lawful in
     record {
@@ -112,7 +112,7 @@ ways_kept tree m t at moves lawful shape can ways =
           (λ here. ⊎_elim (λ there. absurd (parent_other tree early o high above (there ∙ sym here))) (λ was. at_child early o high above here was) (fired_was tree m t at high other))
           (λ was. ⊎_elim (λ there. at_parent early o high above there was) (λ both. old o high above was both) (fired_was tree m t at high other))
           (fired_was tree m t at o some);
-      made = λ x among. ⊎_elim (λ old. fired_still tree m t at x.object (ways.made x old)) (λ same. subst (λ x. (picture_after tree m t at).fired x.object ≢ []) (sym same) (fired_now tree m t at)) (among_cases moves m x among);
+      made = λ x among. ⊎_elim (λ old. fired_still tree m t at x.object (ways.made x old)) (λ same. subst (λ x. (progress_after tree m t at).fired x.object ≢ []) (sym same) (fired_now tree m t at)) (among_cases moves m x among);
       up_fired = λ o high goes. fired_still tree m t at o (⊎_elim
           (λ old. ways.up_fired o high (record { move = goes.move; among = old; object = goes.object; takes = goes.takes; asker = goes.asker }))
           (λ same. asker_fired tree m.object o m.asker m.takes at shape can.takes (ap (λ (x : Move). x.takes) (sym same) ∙ goes.takes) (ap (λ (x : Move). x.asker) (sym same) ∙ goes.asker))

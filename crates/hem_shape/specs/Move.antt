@@ -3,7 +3,7 @@ use Rattle.std.specs.Prelude.{ℕ, ◌≡◌, ◌≢◌, Bool, true, false, not,
 use Rattle.hem_template.specs.declared.template_name.TemplateName.{TemplateName}
 use Rattle.hem_template.specs.declared.template_name.TemplateName.TheVariants.{ImmSelf, ImmDown, ImmUp, RqUp, RqUpSelf, RqUpDown, RqDownSelf, RqDownDown, RsDown, RsDownSelf, RsDownRqDown, RsUpDown, RsUpUp, RsUpSelf}
 use Rattle.hem_tree.specs.Tree.{Tree, is_child}
-use Rattle.hem_shape.specs.Picture.{Asker, child, processor, parent, itself, Picture, set_at, IsBlank}
+use Rattle.hem_shape.specs.Progress.{Asker, child, processor, parent, itself, Progress, set_at, IsBlank}
 
 -- what a firing takes: its asker's request, the answer of the parent, or the answers of the children; with an answer it frees the lock that waited for it
 pub data Taking : Type 0 where
@@ -48,8 +48,8 @@ template_name child_answers parent answer = Some RsUpUp
 template_name child_answers itself answer = Some RsUpSelf
 template_name _ _ _ = None
 
--- the picture after a firing has taken its messages and freed its lock
-abbrev pub taken : Tree → ℕ → Asker → Taking → Picture → Picture
+-- the progress after a firing has taken its messages and freed its lock
+abbrev pub taken : Tree → ℕ → Asker → Taking → Progress → Progress
 taken tree o (child c) request at = record at { asks_up = set_at c false at.asks_up }
 taken tree o parent request at = record at { asks_down = set_at o false at.asks_down }
 taken tree o processor request at = at
@@ -57,12 +57,12 @@ taken tree o itself request at = at
 taken tree o asker parent_answer at = record at { answers_down = set_at o false at.answers_down; up = set_at o None at.up }
 taken tree o asker child_answers at = record at { answers_up = λ k. at.answers_up k && not (is_child tree k o); down = set_at o None at.down }
 
--- the picture with one more template fired at an object
-abbrev pub recorded : ℕ → TemplateName → Picture → Picture
+-- the progress with one more template fired at an object
+abbrev pub recorded : ℕ → TemplateName → Progress → Progress
 recorded o t at = record at { fired = set_at o (at.fired o ++ t ∷ []) at.fired }
 
--- the picture after a firing has sent its messages and taken its lock
-abbrev pub given : ℕ → Asker → Giving → Picture → Picture
+-- the progress after a firing has sent its messages and taken its lock
+abbrev pub given : ℕ → Asker → Giving → Progress → Progress
 given o (child c) answer at = record at { answers_down = set_at c true at.answers_down }
 given o parent answer at = record at { answers_up = set_at o true at.answers_up }
 given o processor answer at = at
@@ -70,24 +70,24 @@ given o itself answer at = at
 given o asker ask_up at = record at { asks_up = set_at o true at.asks_up; up = set_at o (Some asker) at.up }
 given o asker (ask_down targets) at = record at { asks_down = λ k. at.asks_down k || targets k; down = set_at o (Some asker) at.down }
 
--- the picture after a firing of that template
-abbrev pub picture_after : Tree → Move → TemplateName → Picture → Picture
-picture_after tree m t at = given m.object m.asker m.gives (recorded m.object t (taken tree m.object m.asker m.takes at))
+-- the progress after a firing of that template
+abbrev pub progress_after : Tree → Move → TemplateName → Progress → Progress
+progress_after tree m t at = given m.object m.asker m.gives (recorded m.object t (taken tree m.object m.asker m.takes at))
 
 -- a child's request is there, and both locks are free
-pub record CanTakeChild (tree : Tree) (o c : ℕ) (at : Picture) : Type 0 where
+pub record CanTakeChild (tree : Tree) (o c : ℕ) (at : Progress) : Type 0 where
   pub own : is_child tree c o ≡ true
   pub there : at.asks_up c ≡ true
   pub up : at.up o ≡ None
   pub down : at.down o ≡ None
 
 -- the parent's request is there, and the downlock is free
-pub record CanTakeParent (o : ℕ) (at : Picture) : Type 0 where
+pub record CanTakeParent (o : ℕ) (at : Progress) : Type 0 where
   pub there : at.asks_down o ≡ true
   pub down : at.down o ≡ None
 
 -- the parent's answer is there, as the only thing for which the uplock is held, and the downlock is free
-pub record CanTakeAnswer (o : ℕ) (asker : Asker) (at : Picture) : Type 0 where
+pub record CanTakeAnswer (o : ℕ) (asker : Asker) (at : Progress) : Type 0 where
   pub there : at.answers_down o ≡ true
   pub up : at.up o ≡ Some asker
   pub down : at.down o ≡ None
@@ -96,13 +96,13 @@ pub record CanTakeAnswer (o : ℕ) (asker : Asker) (at : Picture) : Type 0 where
   pub no_down : (high : ℕ) → at.down high ≢ Some (child o)
 
 -- the downlock is held, and no child still has the request or works on it
-pub record CanTakeAnswers (tree : Tree) (o : ℕ) (asker : Asker) (at : Picture) : Type 0 where
+pub record CanTakeAnswers (tree : Tree) (o : ℕ) (asker : Asker) (at : Progress) : Type 0 where
   pub down : at.down o ≡ Some asker
   pub no_request : (k : ℕ) → is_child tree k o ≡ true → at.asks_down k ≡ false
   pub no_down : (k : ℕ) → is_child tree k o ≡ true → at.down k ≢ Some parent
 
 -- a firing can take this: a start's transaction has not begun
-abbrev pub CanTake : Tree → ℕ → Asker → Taking → Picture → Type 0
+abbrev pub CanTake : Tree → ℕ → Asker → Taking → Progress → Type 0
 CanTake tree o (child c) request at = CanTakeChild tree o c at
 CanTake tree o parent request at = CanTakeParent o at
 CanTake tree o processor request at = IsBlank at
@@ -116,7 +116,7 @@ CanGive tree o asker (ask_down targets) = (k : ℕ) → targets k ≡ true → (
 CanGive tree o asker _ = Unit {0}
 
 -- a firing of that template can be made
-pub record CanMove (tree : Tree) (m : Move) (t : TemplateName) (at : Picture) : Type 0 where
+pub record CanMove (tree : Tree) (m : Move) (t : TemplateName) (at : Progress) : Type 0 where
   pub named : template_name m.takes m.asker m.gives ≡ Some t
   pub takes : CanTake tree m.object m.asker m.takes at
   pub gives : CanGive tree m.object m.asker m.gives

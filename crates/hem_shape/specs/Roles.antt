@@ -3,7 +3,7 @@ use Rattle.std.specs.Prelude.{ℕ, ◌≡◌, ◌≢◌, Bool, true, false, ◌&
 use Rattle.hem_template.specs.declared.template_name.TemplateName.{TemplateName}
 use Rattle.hem_template.specs.declared.template_name.TemplateName.TheVariants.{RqUp, RqUpSelf, RqUpDown, RqDownSelf, RqDownDown, RsDown, RsDownSelf, RsDownRqDown, RsUpDown, RsUpUp, RsUpSelf}
 use Rattle.hem_tree.specs.Tree.{Tree, parent_of}
-use Rattle.hem_shape.specs.Picture.{Picture}
+use Rattle.hem_shape.specs.Progress.{Progress}
 
 -- whether a template can be the first of a role: all but those that take an answer
 abbrev pub begins_role : TemplateName → Bool
@@ -37,9 +37,9 @@ is_role [] = true
 is_role (t ∷ ts) = begins_role t && goes_on t ts
 
 -- each object has a role
-pub record HasRoles (at : Picture) : Type 0 where
+pub record HasRoles (at : Progress) : Type 0 where
   pub each : (k : ℕ) → is_role (at.fired k) ≡ true
 
 -- an object at which a transaction goes on stands beside one at which it has fired, or is one
-abbrev pub IsBeside : Tree → Picture → ℕ → Type 0
+abbrev pub IsBeside : Tree → Progress → ℕ → Type 0
 IsBeside tree at o = (at.fired o ≢ []) ⊎ (((c : ℕ) × (parent_of tree c ≡ Some o) × (at.fired c ≢ [])) ⊎ ((high : ℕ) × (parent_of tree o ≡ Some high) × (at.fired high ≢ [])))

@@ -5,7 +5,7 @@ use Rattle.hem_template.specs.declared.template_name.TemplateName.{TemplateName}
 use Rattle.hem_template.specs.declared.template_name.TemplateName.TheVariants.{RqUp, RqUpSelf, RqUpDown, RqDownSelf, RqDownDown, RsDownRqDown}
 use Rattle.hem_tree.specs.Tree.{Tree, parent_of, is_child}
 use Rattle.hem_shape.specs.Subtree.{InSubtree}
-use Rattle.hem_shape.specs.Picture.{Asker, child, processor, parent, itself, Picture}
+use Rattle.hem_shape.specs.Progress.{Asker, child, processor, parent, itself, Progress}
 
 -- the transaction holds a lock
 pub record IsHeld (lock : Option Asker) : Type 0 where
@@ -41,7 +41,7 @@ abbrev pub IsUntouchedBut : Tree → (ℕ → List TemplateName) → ℕ → Ask
 IsUntouchedBut tree fired o asker = (k : ℕ) → InSubtree tree k o → k ≢ o → fired k ≢ [] → (c : ℕ) × (asker ≡ child c) × InSubtree tree k c
 
 -- a transaction on its way up: its one message is the request of c, and it has only sent upward, in the subtree of c
-pub record IsRising (tree : Tree) (at : Picture) (c : ℕ) : Type 0 where
+pub record IsRising (tree : Tree) (at : Progress) (c : ℕ) : Type 0 where
   pub only : (k : ℕ) → at.asks_up k ≡ true → k ≡ c
   pub no_answers_up : (k : ℕ) → at.answers_up k ≡ false
   pub no_asks_down : (k : ℕ) → at.asks_down k ≡ false
@@ -56,20 +56,20 @@ pub record WaitsAbove (tree : Tree) (fired : ℕ → List TemplateName) (o : ℕ
   pub untouched : IsUntouchedBut tree fired o asker
 
 -- what is on the way to or from a parent belongs to the child's uplock
-pub record BelongsBelow (at : Picture) : Type 0 where
+pub record BelongsBelow (at : Progress) : Type 0 where
   pub asks_up : (k : ℕ) → at.asks_up k ≡ true → IsHeld (at.up k)
   pub answers_down : (k : ℕ) → at.answers_down k ≡ true → IsHeld (at.up k)
   pub up : (o k : ℕ) → at.up o ≡ Some (child k) → IsHeld (at.up k)
   pub down : (o k : ℕ) → at.down o ≡ Some (child k) → IsHeld (at.up k)
 
 -- what is on the way to or from a child belongs to the parent's downlock
-pub record BelongsAbove (tree : Tree) (at : Picture) : Type 0 where
+pub record BelongsAbove (tree : Tree) (at : Progress) : Type 0 where
   pub asks_down : (k : ℕ) → at.asks_down k ≡ true → IsHeldAbove tree at.down k
   pub answers_up : (k : ℕ) → at.answers_up k ≡ true → IsHeldAbove tree at.down k
   pub down : (k : ℕ) → at.down k ≡ Some parent → IsHeldAbove tree at.down k
 
 -- the shape of a transaction
-pub record HasShape (tree : Tree) (at : Picture) : Type 0 where
+pub record HasShape (tree : Tree) (at : Progress) : Type 0 where
   pub below : BelongsBelow at
   pub above : BelongsAbove tree at
   pub rising : (c : ℕ) → at.asks_up c ≡ true → IsRising tree at c

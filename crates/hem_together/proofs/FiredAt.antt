@@ -12,7 +12,8 @@ use Rattle.hem_template.specs.Template.{template_of}
 use Rattle.hem_tree.specs.Tree.{Tree, kind_of}
 use Rattle.hem_trace.specs.Order.{Entry}
 use Rattle.hem_law.specs.Printed.{entries_at, rows_of}
-use Rattle.hem_law.specs.Windows.{if_template, template_at}
+use Rattle.hem_template.specs.Waiting.{template_if}
+use Rattle.hem_trace.specs.Templates.{template_at}
 use Rattle.hem_law.proofs.Filters.{filter-map}
 use Rattle.hem_shape.proofs.RolesKept.{at_most_three}
 use Rattle.hem_together.specs.HaveRoles.{fired_at, HaveRoles}
@@ -74,9 +75,9 @@ fired_elsewhere past x l o t differs = one_drops (λ e. e.number == t) (λ e. e.
 -- a firing's template
 pub template_is : (p : Protocol) (tree : Tree) (f : Firing) (kind : Kind) (rule : Rule) (t : TemplateName) → kind_of tree f.object.0 ≡ Some kind → rule_named p kind f.rule ≡ Some rule → template_of p kind rule ≡ Ok t → template_at p tree f ≡ Some t
 template_is p tree f kind rule t there named is =
-    ap (λ kind. option_and_then (λ kind. option_and_then (λ rule. if_template (template_of p kind rule)) (rule_named p kind f.rule)) kind) there
-    ∙ ap (λ rule. option_and_then (λ rule. if_template (template_of p kind rule)) rule) named
-    ∙ ap if_template is
+    ap (λ kind. option_and_then (λ kind. option_and_then (λ rule. template_if (template_of p kind rule)) (rule_named p kind f.rule)) kind) there
+    ∙ ap (λ rule. option_and_then (λ rule. template_if (template_of p kind rule)) rule) named
+    ∙ ap template_if is
 
 pub map_end : {A B : Type 0} (f : A → B) (xs : List A) (x : A) → map f (xs ++ x ∷ []) ≡ map f xs ++ f x ∷ []
 map_end f [] x = refl

@@ -5,7 +5,7 @@ use Rattle.hem_syntax.specs.Protocol.{Protocol}
 use Rattle.hem_tree.specs.Tree.{Tree}
 use Rattle.hem_trace.specs.Order.{Entry, entries_in}
 use Rattle.hem_law.specs.Printed.{entries_at}
-use Rattle.hem_law.specs.Windows.{template_at}
+use Rattle.hem_trace.specs.Templates.{template_at}
 use Rattle.hem_shape.specs.Roles.{is_role}
 
 -- the entries of a transaction at an object of a line

@@ -25,7 +25,8 @@ use Rattle.hem_tree.specs.Tree.{Tree, kind_of, children_of, place_among}
 use Rattle.hem_system.specs.State.{State, Effect, Step, LineStep, heads_of, is_own_child, place_of_me, rule_effect, own_effect, local_at, effect_of, line_after, line_step_of, step_of, fire, run}
 use Rattle.hem_trace.specs.History.{Event, events, channels_taken}
 use Rattle.hem_trace.specs.Blocks.{Each}
-use Rattle.hem_trace.specs.Order.{is_upward_template, is_upward}
+use Rattle.hem_trace.specs.Order.{is_upward}
+use Rattle.hem_template.specs.Waiting.{is_upward_template}
 use Rattle.hem_trace.specs.OneStep.{is_answer_template, answers_at_once, is_one_step}
 
 -- an event that takes nothing from a channel, of a firing that the normal form never moves

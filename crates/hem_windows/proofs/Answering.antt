@@ -14,12 +14,12 @@ use Rattle.hem_tree.specs.Tree.{Tree, IsLawful, is_child, place_among}
 use Rattle.hem_tree.proofs.Early.{lawful_early}
 use Rattle.hem_system.specs.declared.lane.Lane.TheVariants.{UpRequests, Down}
 use Rattle.hem_system.specs.State.{Cell, Line, Effect, takes, reaches, heads_of, head_at, place_of_me, cell_after, line_after}
-use Rattle.hem_locks.specs.Acts.{IsThere, is_down_request, is_down_response, Acts}
+use Rattle.hem_rows.specs.Acts.{IsThere, is_down_request, is_down_response, Acts}
 use Rattle.hem_locks.specs.Acted.{IsActed}
 use Rattle.hem_locks.specs.Edges.{one_if, count, responses_first, is_kid, for_kid, held, CellsHold, LocksHold}
 use Rattle.hem_locks.specs.Clean.{IsClean, AreInLine}
 use Rattle.hem_locks.specs.Allowed.{HasTemplate}
-use Rattle.hem_locks.proofs.Choices.{if_mapped}
+use Rattle.hem_rows.proofs.Choices.{if_mapped}
 use Rattle.hem_locks.proofs.Counts.{changed, count-cons, count-changed, length-changed, request_first}
 use Rattle.hem_locks.proofs.Clean.{clean_by, is_held}
 use Rattle.hem_locks.proofs.Places.{up_requests_above}

@@ -11,7 +11,7 @@ use Rattle.hem_template.specs.Template.{row_of}
 use Rattle.hem_template.specs.declared.row.Taking.TheVariants.{ParentResponse}
 use Rattle.hem_fire.specs.declared.outs.Outs.{Outs}
 use Rattle.hem_fire.specs.Heads.{Heads}
-use Rattle.hem_locks.specs.Acts.{is_down_request, is_down_response, Acts}
+use Rattle.hem_rows.specs.Acts.{is_down_request, is_down_response, Acts}
 
 -- with the uplock held, the downlock free and no request of the parent there, only a response of the parent can be taken
 held_free : (lock : Lock) (up : Option Lock) → up ≡ Some lock → up ≡ None → ⊥

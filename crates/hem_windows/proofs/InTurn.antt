@@ -5,10 +5,10 @@ use Rattle.hem_template.specs.declared.template_name.TemplateName.TheVariants.{I
 use Rattle.hem_syntax.specs.Protocol.{Protocol}
 use Rattle.hem_tree.specs.Tree.{Tree, IsLawful}
 use Rattle.hem_system.specs.State.{Line, LineStep, Effect, effect_of, line_after, line_step_of, run_line}
-use Rattle.hem_locks.specs.Acted.{AllHaveTemplates}
+use Rattle.hem_rows.specs.Rows.{AllHaveTemplates}
 use Rattle.hem_locks.specs.Edges.{LocksHold}
 use Rattle.hem_locks.specs.Allowed.{HasTemplate}
-use Rattle.hem_locks.proofs.Choices.{if_some, if_mapped}
+use Rattle.hem_rows.proofs.Choices.{if_some, if_mapped}
 use Rattle.hem_locks.proofs.Acted.{acted}
 use Rattle.hem_locks.proofs.States.{line_kept}
 use Rattle.hem_locks.proofs.Laws.{has_template}

@@ -19,12 +19,12 @@ use Rattle.hem_system.specs.declared.lane.Lane.TheVariants.{UpRequests}
 use Rattle.hem_system.specs.State.{Cell, Line, Effect, takes, reaches, heads_of, place_of_me, cell_after, line_after}
 use Rattle.hem_system.proofs.Takers.{parent_is}
 use Rattle.hem_system.proofs.Changed.{is_same}
-use Rattle.hem_locks.specs.Acts.{Acts}
+use Rattle.hem_rows.specs.Acts.{Acts}
 use Rattle.hem_locks.specs.Acted.{IsActed}
 use Rattle.hem_locks.specs.Edges.{one_if, LocksHold}
 use Rattle.hem_locks.specs.Allowed.{HasTemplate}
 use Rattle.hem_locks.specs.Clean.{AreInLine}
-use Rattle.hem_locks.proofs.Choices.{if_mapped}
+use Rattle.hem_rows.proofs.Choices.{if_mapped}
 use Rattle.hem_locks.proofs.Counts.{changed, length-changed}
 use Rattle.hem_locks.proofs.Lines.{get_map_each, local_of, own_local, other_local}
 use Rattle.hem_locks.proofs.Places.{not_own_child}

@@ -14,7 +14,7 @@ use Rattle.hem_tree.specs.Tree.{Tree, IsLawful, parent_of, place_among}
 use Rattle.hem_tree.proofs.Early.{lawful_early}
 use Rattle.std.proofs.lemmas.Option.{slice_get_within}
 use Rattle.hem_system.specs.State.{Cell, Line, Effect}
-use Rattle.hem_locks.specs.Acts.{is_down_response, Acts}
+use Rattle.hem_rows.specs.Acts.{is_down_response, Acts}
 use Rattle.hem_locks.specs.Acted.{IsActed}
 use Rattle.hem_locks.specs.Allowed.{ServesParent}
 use Rattle.hem_locks.specs.Edges.{one_if, count, is_kid, for_kid, held, CellsHold, LocksHold}

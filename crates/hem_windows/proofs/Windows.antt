@@ -17,18 +17,20 @@ use Rattle.hem_tree.specs.Tree.{Tree, IsLawful, parent_of, is_child}
 use Rattle.hem_system.specs.declared.lane.Lane.TheVariants.{UpRequests}
 use Rattle.hem_system.specs.State.{Cell, Line, LineStep, Effect, takes, reaches, effect_of, heads_of, place_of_me, cell_after, line_after, line_step_of, run_line}
 use Rattle.hem_system.proofs.Changed.{is_same, not_same}
-use Rattle.hem_locks.specs.Acts.{Acts}
-use Rattle.hem_locks.specs.Acted.{AllHaveTemplates, IsActed}
+use Rattle.hem_rows.specs.Acts.{Acts}
+use Rattle.hem_rows.specs.Rows.{AllHaveTemplates}
+use Rattle.hem_locks.specs.Acted.{IsActed}
 use Rattle.hem_locks.specs.Edges.{one_if, LocksHold}
 use Rattle.hem_locks.specs.Allowed.{HasTemplate, ServesParent}
 use Rattle.hem_locks.specs.Clean.{AreInLine, IsCleanAt, AreCleanAt}
-use Rattle.hem_locks.proofs.Choices.{if_some, if_mapped}
+use Rattle.hem_rows.proofs.Choices.{if_some, if_mapped}
 use Rattle.hem_locks.proofs.Acted.{acted}
 use Rattle.hem_locks.proofs.Lines.{local_of, own_local, other_local}
 use Rattle.hem_locks.proofs.States.{line_kept}
 use Rattle.hem_locks.proofs.Laws.{clean_path}
 use Rattle.hem_windows.specs.Pending.{IsPending, IsOneOf, takes_of, top_after, SendsOn}
-use Rattle.hem_windows.specs.Blocks.{template_at, templates_at, are_blocks}
+use Rattle.hem_trace.specs.Templates.{template_at}
+use Rattle.hem_windows.specs.Blocks.{templates_at, are_blocks}
 use Rattle.hem_windows.proofs.Waiting.{IsWaiting, path_waits, waiting_fires}
 use Rattle.hem_windows.proofs.Pending.{cell_next, pending_stays, pending_rises, same_template, child_named, no_self_child, still_asks}
 

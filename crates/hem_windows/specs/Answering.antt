@@ -7,7 +7,7 @@ use Rattle.hem_template.specs.Template.{row_of}
 use Rattle.hem_template.specs.declared.row.Taking.TheVariants.{ParentResponse}
 use Rattle.hem_tree.specs.Tree.{Tree, parent_of, place_among}
 use Rattle.hem_system.specs.State.{Cell, Line}
-use Rattle.hem_locks.specs.Acts.{is_down_response}
+use Rattle.hem_rows.specs.Acts.{is_down_response}
 use Rattle.hem_locks.specs.Edges.{count, for_kid}
 use Rattle.hem_locks.specs.Allowed.{HasTemplate}
 use Rattle.hem_locks.specs.Clean.{AreInLine}

@@ -8,16 +8,6 @@ use Rattle.hem_syntax.specs.Protocol.{Protocol, rule_named}
 use Rattle.hem_template.specs.Template.{template_of}
 use Rattle.hem_tree.specs.Tree.{Tree, kind_of}
 
--- the template of a rule that has one
-abbrev pub template_if : Result TemplateName Clause → Option TemplateName
-template_if (Ok t) = Some t
-template_if (Err _) = None
-
--- the template of the rule that a firing names
-abbrev pub template_at : Protocol → Tree → Firing → Option TemplateName
-template_at p tree f =
-    option_and_then (λ kind. option_and_then (λ rule. template_if (template_of p kind rule)) (rule_named p kind f.rule)) (kind_of tree f.object.0)
-
 -- the templates that an object fires, in order
 abbrev pub templates_at : Protocol → Tree → ℕ → List Firing → List TemplateName
 templates_at p tree o h = filter_map (λ f. cond (f.object.0 == o) (template_at p tree f) None) h

@@ -8,7 +8,7 @@ ghost use Rattle.hem_template.specs.declared.template_name.TemplateName.TheVaria
 ghost use Rattle.hem_syntax.specs.Protocol.{Protocol};
 ghost use Rattle.hem_tree.specs.Tree.{Tree, IsLawful};
 ghost use Rattle.hem_system.specs.State.{Cell, Line, Effect, effect_of, line_after, run_line};
-ghost use Rattle.hem_locks.specs.Acted.{AllHaveTemplates};
+ghost use Rattle.hem_rows.specs.Rows.{AllHaveTemplates};
 ghost use Rattle.hem_locks.specs.Edges.{LocksHold};
 ghost use Rattle.hem_locks.specs.Allowed.{HasTemplate};
 ghost use Rattle.hem_windows.specs.Pending.{IsPending, IsOneOf, takes_of, top_after, lows_after, SendsOn, AllServe};
