@@ -8,7 +8,8 @@ use Rattle.hem_tree.specs.Tree.{Tree, kind_of, level_of}
 use Rattle.hem_system.specs.State.{State}
 use Rattle.hem_template.specs.Template.{template_of}
 use Rattle.hem_template.specs.Waiting.{is_upward_template}
-use Rattle.hem_trace.specs.History.{Event, events}
+use Rattle.hem_system.specs.Events.{Event}
+use Rattle.hem_trace.specs.History.{events}
 use Rattle.hem_trace.specs.Tags.{numbers_of}
 use Rattle.hem_trace.specs.Blocks.{Block}
 
@@ -20,7 +21,7 @@ pub record Entry : Type 0 where
   pub level : ℕ
   pub upward : Bool
 
--- whether a firing is of such a template
+-- whether a firing sends a request up and waits for the answer
 abbrev pub is_upward : Protocol → Tree → Firing → Bool
 is_upward p tree f =
     option_map_or (λ kind. option_map_or (λ rule. is_upward_template (template_of p kind rule)) (rule_named p kind f.rule) false)
