@@ -21,7 +21,7 @@ use Rattle.hem_fire.specs.declared.outs.Outs.{Outs}
 use Rattle.hem_fire.specs.OneFire.{Heads}
 use Rattle.hem_fire.specs.View.{view_of}
 use Rattle.hem_system.specs.State.{place_of_me}
-use Rattle.hem_trace.specs.History.{Event}
+use Rattle.hem_system.specs.Events.{Event}
 use Rattle.hem_trace.specs.Blocks.{Each}
 use Rattle.hem_trace.specs.Order.{Entry}
 use Rattle.hem_law.specs.Chains.{heads_seen, ChainStep, IsChain}

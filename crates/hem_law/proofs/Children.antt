@@ -14,7 +14,8 @@ use Rattle.hem_system.specs.declared.lane.Lane.TheVariants.{UpRequests, UpRespon
 use Rattle.hem_tree.specs.Tree.{Tree, below, is_child}
 use Rattle.hem_fire.specs.OneFire.{Heads}
 use Rattle.hem_system.specs.State.{Line, map_each, heads_of, request_head, is_own_child, head_at, taken_heads, takes}
-use Rattle.hem_trace.specs.History.{Event, head_seen}
+use Rattle.hem_system.specs.Events.{Event}
+use Rattle.hem_trace.specs.History.{head_seen}
 use Rattle.hem_law.specs.Chains.{heads_seen}
 
 -- of heads from a place on, those in a set

@@ -17,7 +17,8 @@ use Rattle.hem_fire.specs.declared.outs.Outs.{Outs}
 use Rattle.hem_fire.specs.OneFire.{Heads, can_fire, outs_of}
 use Rattle.hem_system.specs.declared.lane.Lane.{Lane}
 use Rattle.hem_system.specs.State.{State, Line, LineStep, Effect, own_effect, effect_of, place_of_me, local_at, heads_of, list_after, line_after, line_step_of, takes, reaches, fire, run}
-use Rattle.hem_trace.specs.History.{Event, Channel, channels_taken, takes_from, sends_to, events}
+use Rattle.hem_system.specs.Events.{Event}
+use Rattle.hem_trace.specs.History.{Channel, channels_taken, takes_from, sends_to, events}
 use Rattle.hem_trace.specs.Blocks.{Each}
 use Rattle.hem_law.specs.Flows.{IsFlow, IsFed, sent_on}
 use Rattle.hem_rows.proofs.Choices.{chosen, if_some, if_mapped}

@@ -10,7 +10,8 @@ use Rattle.hem_syntax.specs.Protocol.{Protocol}
 use Rattle.hem_tree.specs.Tree.{Tree, is_child, place_among}
 use Rattle.hem_object.specs.Local.{Local}
 use Rattle.hem_system.specs.State.{Line, local_at, list_at, list_after, takes, reaches, taker_of, sender_of, run_line}
-use Rattle.hem_trace.specs.History.{Event, head_seen, line_events}
+use Rattle.hem_system.specs.Events.{Event}
+use Rattle.hem_trace.specs.History.{head_seen, line_events}
 use Rattle.hem_trace.specs.Blocks.{Each}
 use Rattle.hem_law.specs.Chains.{own_events, firings, heads_seen, IsChain}
 use Rattle.hem_law.specs.Flows.{IsFlow, taken_on, sent_on, all_taken, all_sent, IsFed}

@@ -24,7 +24,7 @@ use Rattle.hem_fire.specs.View.{view_of}
 use Rattle.hem_fire.specs.Locks.{lock_taken, request_in_hand}
 use Rattle.hem_fire.specs.OneFire.{local_after}
 use Rattle.hem_system.specs.State.{place_of_me}
-use Rattle.hem_trace.specs.History.{Event}
+use Rattle.hem_system.specs.Events.{Event}
 use Rattle.hem_trace.specs.Blocks.{Each}
 use Rattle.hem_law.specs.Chains.{heads_seen, ChainStep}
 use Rattle.hem_abstract.specs.Stable.{IsOfKind}

@@ -8,7 +8,8 @@ use Rattle.hem_syntax.specs.Protocol.{Protocol}
 use Rattle.hem_tree.specs.Tree.{Tree}
 use Rattle.hem_object.specs.Local.{Local}
 use Rattle.hem_system.specs.State.{Line, Effect, LineStep, own_effect, local_at, effect_of, line_step_of, run_line, heads_of, line_after, list_at, takes, taken_heads}
-use Rattle.hem_trace.specs.History.{Event, line_events}
+use Rattle.hem_system.specs.Events.{Event}
+use Rattle.hem_trace.specs.History.{line_events}
 use Rattle.hem_law.specs.Chains.{own_events, firings, heads_seen, ChainStep, IsChain}
 use Rattle.hem_law.specs.Flows.{IsFirst, IsFlow}
 use Rattle.hem_law.specs.Leads.{Leads}

@@ -11,7 +11,8 @@ use Rattle.hem_system.specs.declared.lane.Lane.{Lane}
 use Rattle.hem_system.specs.declared.lane.Lane.TheVariants.{UpRequests, UpResponses, Down, Requests, Answers}
 use Rattle.hem_system.specs.State.{State, takes, run}
 use Rattle.hem_system.proofs.Kids.{child_at}
-use Rattle.hem_trace.specs.History.{Event, Channel, channels_taken, takes_from, events}
+use Rattle.hem_system.specs.Events.{Event}
+use Rattle.hem_trace.specs.History.{Channel, channels_taken, takes_from, events}
 use Rattle.hem_trace.specs.Tags.{Tags, no_tags, tags_after, number_at}
 use Rattle.hem_trace.specs.Blocks.{Each}
 use Rattle.hem_trace.specs.Order.{entries_of}

@@ -21,7 +21,7 @@ use Rattle.hem_tree.specs.Tree.{Tree, kind_of}
 use Rattle.hem_fire.specs.OneFire.{Heads, can_fire}
 use Rattle.hem_fire.specs.View.{view_of}
 use Rattle.hem_system.specs.State.{Effect, is_own_child, place_of_me, rule_effect, own_effect, taken_heads}
-use Rattle.hem_trace.specs.History.{Event}
+use Rattle.hem_system.specs.Events.{Event}
 use Rattle.hem_trace.specs.Blocks.{Each}
 use Rattle.hem_template.specs.Waiting.{is_upward_template, is_downward_template}
 use Rattle.hem_trace.specs.Order.{is_upward}

@@ -14,7 +14,8 @@ use Rattle.hem_syntax.specs.Protocol.{Protocol}
 use Rattle.hem_tree.specs.Tree.{Tree, is_child, children_of, place_among}
 use Rattle.hem_object.specs.Local.{Local}
 use Rattle.hem_system.specs.State.{Line, Effect, LineStep, own_effect, local_at, request_head, effect_of, line_step_of, run_line, heads_of, head_at, line_after, list_at, list_after, takes, taken_heads}
-use Rattle.hem_trace.specs.History.{Event, line_events}
+use Rattle.hem_system.specs.Events.{Event, event_of}
+use Rattle.hem_trace.specs.History.{line_events}
 use Rattle.hem_law.specs.Chains.{own_events, firings, heads_seen, ChainStep, IsChain}
 use Rattle.hem_law.specs.Flows.{IsFirst, IsFlow}
 use Rattle.hem_law.specs.Leads.{Leads}
@@ -25,10 +26,6 @@ use Rattle.hem_law.proofs.Children.{at_bits, heads-met}
 use Rattle.hem_law.proofs.LineParts.{slice_get-map_each, length-map_each, list_at-after, local_at-after}
 use Rattle.hem_law.proofs.Taken.{HasMessage, TakesThere, takes-there, kid-at}
 use Rattle.hem_law.proofs.LawRun.{own-first, own-other}
-
--- the event of a firing with an effect
-abbrev pub event_of : Firing → Effect → Event
-event_of f e = record { firing = f; took = e.took; outs = e.outs }
 
 -- the requester's message
 up-first : (taken : Bool) (me : Option ObjectId) (line : Line) (o k : ℕ) (mine : Bool) → (taken && option_map_or (λ child. child.0 == k) me false && mine) ≡ true → (taken ≡ true → HasMessage (request_head line o me)) → (m : Message) × (head_at line k UpRequests ≡ Some m) × (cond taken (request_head line o me) None ≡ Some m)

@@ -10,7 +10,8 @@ use Rattle.hem_system.specs.declared.lane.Lane.{Lane}
 use Rattle.hem_system.specs.declared.lane.Lane.TheVariants.{Requests}
 use Rattle.hem_object.specs.Local.{Local}
 use Rattle.hem_system.specs.State.{State, Line, Cell, local_at, takes, reaches, taker_of, sender_of, run_line, run}
-use Rattle.hem_trace.specs.History.{Event, Channel, takes_from, sends_to, events, line_events}
+use Rattle.hem_system.specs.Events.{Event}
+use Rattle.hem_trace.specs.History.{Channel, takes_from, sends_to, events, line_events}
 use Rattle.hem_trace.specs.Tags.{no_tags}
 use Rattle.hem_trace.specs.Order.{Entry}
 use Rattle.hem_law.specs.Lists.{IsPairwise, IsBelow, IsMatched}

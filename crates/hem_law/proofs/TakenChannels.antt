@@ -9,7 +9,8 @@ use Rattle.hem_syntax.specs.Protocol.{Protocol}
 use Rattle.hem_tree.specs.Tree.{Tree, below, is_child, children_of, place_among}
 use Rattle.hem_system.specs.declared.lane.Lane.TheVariants.{UpRequests, UpResponses, Down, Requests}
 use Rattle.hem_system.specs.State.{State, Line, LineStep, is_own_child, own_effect, effect_of, local_at, heads_of, line_after, line_step_of, fire, run}
-use Rattle.hem_trace.specs.History.{Event, Channel, channels_taken, takes_from, events}
+use Rattle.hem_system.specs.Events.{Event}
+use Rattle.hem_trace.specs.History.{Channel, channels_taken, takes_from, events}
 use Rattle.hem_trace.specs.Blocks.{Each}
 use Rattle.hem_rows.proofs.Choices.{if_some, if_mapped}
 use Rattle.hem_law.proofs.OwnEffect.{own_effect-parts}

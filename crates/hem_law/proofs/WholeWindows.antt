@@ -10,7 +10,7 @@ use Rattle.hem_syntax.specs.Lawful.{IsProtocol}
 use Rattle.hem_template.specs.Template.{template_of}
 use Rattle.hem_tree.specs.Tree.{Tree, kind_of}
 use Rattle.hem_system.specs.State.{State, local_at}
-use Rattle.hem_trace.specs.History.{Event}
+use Rattle.hem_system.specs.Events.{Event}
 use Rattle.hem_trace.specs.Blocks.{Each}
 use Rattle.hem_trace.specs.Order.{Entry}
 use Rattle.hem_template.specs.Waiting.{is_upward_template}

@@ -33,7 +33,7 @@ use Rattle.hem_fire.specs.Sends.{goes_to}
 use Rattle.hem_system.specs.declared.lane.Lane.{Lane}
 use Rattle.hem_system.specs.declared.lane.Lane.TheVariants.{UpRequests, UpResponses, Down, Requests, Answers}
 use Rattle.hem_system.specs.State.{place_of_me, takes, reaches}
-use Rattle.hem_trace.specs.History.{Event}
+use Rattle.hem_system.specs.Events.{Event}
 use Rattle.hem_trace.specs.Blocks.{Each}
 use Rattle.hem_trace.specs.Order.{Entry, is_upward}
 use Rattle.hem_template.specs.Waiting.{is_upward_template, is_downward_template}

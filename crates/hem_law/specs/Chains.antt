@@ -7,7 +7,8 @@ use Rattle.hem_tree.specs.Tree.{Tree, children_of}
 use Rattle.hem_fire.specs.OneFire.{Heads}
 use Rattle.hem_system.specs.declared.lane.Lane.TheVariants.{UpResponses}
 use Rattle.hem_system.specs.State.{own_effect}
-use Rattle.hem_trace.specs.History.{Event, head_seen}
+use Rattle.hem_system.specs.Events.{Event}
+use Rattle.hem_trace.specs.History.{head_seen}
 
 -- the firings of events
 abbrev pub firings : List Event → List Firing

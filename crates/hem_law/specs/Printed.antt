@@ -7,7 +7,8 @@ use Rattle.hem_tree.specs.Tree.{Tree}
 use Rattle.hem_system.specs.declared.lane.Lane.{Lane}
 use Rattle.hem_system.specs.declared.lane.Lane.TheVariants.{Requests}
 use Rattle.hem_system.specs.State.{State, Line, local_at, list_at, run}
-use Rattle.hem_trace.specs.History.{Event, events, channels_taken}
+use Rattle.hem_system.specs.Events.{Event}
+use Rattle.hem_trace.specs.History.{events, channels_taken}
 use Rattle.hem_trace.specs.Tags.{no_tags}
 use Rattle.hem_trace.specs.Blocks.{Each}
 use Rattle.hem_trace.specs.Order.{Entry, transactions_of, normal}

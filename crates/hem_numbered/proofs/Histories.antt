@@ -17,7 +17,7 @@ use Rattle.hem_system.specs.declared.lane.Lane.{Lane}
 use Rattle.hem_system.specs.declared.lane.Lane.TheVariants.{Requests}
 use Rattle.hem_system.specs.State.{State, Line, Effect, takes, reaches, fire, line_after}
 use Rattle.hem_system.proofs.Sets.{get_set_here, get_set_other}
-use Rattle.hem_trace.specs.History.{Event}
+use Rattle.hem_system.specs.Events.{Event, event_of as event_by}
 use Rattle.hem_trace.specs.Order.{Entry, entries_in, is_upward}
 use Rattle.hem_template.specs.Waiting.{is_upward_template}
 use Rattle.hem_rows.specs.Rows.{AllHaveTemplates}
@@ -36,10 +36,6 @@ use Rattle.hem_numbered.proofs.Moves.{IsMove, move_of, progress_moved}
 use Rattle.hem_numbered.proofs.Templates.{is_move}
 use Rattle.hem_numbered.proofs.Kept.{is_numbered, numbers_kept}
 use Rattle.hem_numbered.proofs.LineSteps.{FiringOf, firing_of}
-
--- an event of a firing, and its entry
-abbrev pub event_by : Firing → Effect → Event
-event_by f e = record { firing = f; took = e.took; outs = e.outs }
 
 abbrev pub entry_by : Protocol → Tree → ℕ → ℕ → Firing → Effect → Entry
 entry_by p tree place n f e = record { place = place; event = event_by f e; number = n; level = level_of tree f.object.0; upward = is_upward p tree f }

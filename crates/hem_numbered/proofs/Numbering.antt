@@ -17,7 +17,8 @@ use Rattle.hem_system.specs.declared.lane.Lane.TheVariants.{UpRequests, UpRespon
 use Rattle.hem_system.specs.State.{Line, list_at, head_at, takes, is_own_child, request_head, heads_of}
 use Rattle.hem_system.proofs.Kids.{child_at, at_child}
 use Rattle.hem_system.proofs.Takers.{and_left, and_right}
-use Rattle.hem_trace.specs.History.{Event, Channel, channels_taken}
+use Rattle.hem_system.specs.Events.{Event}
+use Rattle.hem_trace.specs.History.{Channel, channels_taken}
 use Rattle.hem_trace.specs.Tags.{Tags, number_at}
 use Rattle.hem_rows.specs.Acts.{takes_me, takes_parent, takes_kids, AreHeads}
 use Rattle.hem_shape.proofs.Spots.{true_false}

@@ -12,7 +12,8 @@ use Rattle.hem_system.specs.declared.lane.Lane.{Lane}
 use Rattle.hem_system.specs.declared.lane.Lane.TheVariants.{UpResponses, Requests}
 use Rattle.hem_system.specs.State.{State, Line, LineStep, Step, Effect, takes, reaches, fire, run, step_of, line_step_of, line_after, place_of_me}
 use Rattle.hem_trace.specs.Blocks.{Each}
-use Rattle.hem_trace.specs.History.{Event, Channel, events, takes_from}
+use Rattle.hem_system.specs.Events.{Event, event_of as event_by}
+use Rattle.hem_trace.specs.History.{Channel, events, takes_from}
 use Rattle.hem_trace.specs.Tags.{Tags, tags_after, number_at, numbers_by_tags}
 use Rattle.hem_trace.specs.Order.{Entry, entries_from}
 use Rattle.hem_law.specs.Normal.{AreNumbered}
@@ -28,7 +29,7 @@ use Rattle.hem_numbered.specs.Histories.{tags_of, AreKnown}
 use Rattle.hem_numbered.proofs.Awaited.{some_taken}
 use Rattle.hem_numbered.proofs.LineSteps.{FiringOf, firing_of}
 use Rattle.hem_numbered.proofs.Numbering.{has_number}
-use Rattle.hem_numbered.proofs.Histories.{event_by, entry_by, IsStep, known_step}
+use Rattle.hem_numbered.proofs.Histories.{entry_by, IsStep, known_step}
 
 -- the step of a firing that is made
 step_is : (p : Protocol) (tree : Tree) (s mid : State) (f : Firing) (it : IsMade p tree s f mid) → step_of p tree s f ≡ Some (record { effect = it.effect; next = mid })

@@ -10,7 +10,8 @@ use Rattle.hem_tree.specs.Tree.{Tree, IsLawful}
 use Rattle.hem_work.specs.Work.{Work}
 use Rattle.hem_system.specs.State.{State, Runs, line_after, start}
 use Rattle.hem_trace.specs.Blocks.{Each}
-use Rattle.hem_trace.specs.History.{Event, events}
+use Rattle.hem_system.specs.Events.{Event}
+use Rattle.hem_trace.specs.History.{events}
 use Rattle.hem_trace.specs.Tags.{numbers_of}
 use Rattle.hem_trace.specs.Order.{Entry, is_upward, entries_from, entries_of, anchor_of, is_moved}
 use Rattle.hem_law.specs.Normal.{OnlyUp}

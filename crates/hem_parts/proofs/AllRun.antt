@@ -8,7 +8,8 @@ use Rattle.hem_syntax.specs.Protocol.{Protocol}
 use Rattle.hem_object.specs.Local.{Local}
 use Rattle.hem_tree.specs.Tree.{Tree}
 use Rattle.hem_system.specs.State.{State, Line, local_at, run}
-use Rattle.hem_trace.specs.History.{Event, events, line_events}
+use Rattle.hem_system.specs.Events.{Event}
+use Rattle.hem_trace.specs.History.{events, line_events}
 use Rattle.hem_trace.specs.Blocks.{Each}
 use Rattle.hem_law.specs.Lists.{IsPairwise, IsOrdered}
 use Rattle.hem_law.specs.Chains.{firings, IsChain}

@@ -21,7 +21,8 @@ use Rattle.hem_rows.proofs.Choices.{both}
 use Rattle.hem_law.proofs.OwnEffect.{own_effect-took}
 use Rattle.hem_law.proofs.LineParts.{slice_get-map_each, length-map_each}
 use Rattle.hem_law.proofs.AllLines.{same_elements}
-use Rattle.hem_parts.specs.Steps.{event_of, head_among}
+use Rattle.hem_parts.specs.Steps.{head_among}
+use Rattle.hem_system.specs.Events.{event_of}
 use Rattle.hem_parts.proofs.AllRun.{there-too, none-too}
 
 -- heads that are taken once more

@@ -12,7 +12,8 @@ use Rattle.hem_system.specs.declared.lane.Lane.{Lane}
 use Rattle.hem_system.specs.declared.lane.Lane.TheVariants.{UpRequests, UpResponses, Down, Requests, Answers}
 use Rattle.hem_system.specs.State.{takes}
 use Rattle.hem_system.proofs.Kids.{child_at}
-use Rattle.hem_trace.specs.History.{Event, Channel, channels_taken}
+use Rattle.hem_system.specs.Events.{Event}
+use Rattle.hem_trace.specs.History.{Channel, channels_taken}
 use Rattle.hem_trace.specs.Blocks.{Each}
 use Rattle.hem_rows.proofs.Choices.{both}
 use Rattle.hem_law.proofs.ListFacts.{each-map}

@@ -12,7 +12,8 @@ use Rattle.hem_system.specs.declared.lane.Lane.{Lane}
 use Rattle.hem_system.specs.declared.lane.Lane.TheVariants.{Requests}
 use Rattle.hem_system.specs.State.{takes, taker_of}
 use Rattle.hem_system.proofs.Takers.{taker_is}
-use Rattle.hem_trace.specs.History.{Event, head_seen}
+use Rattle.hem_system.specs.Events.{Event}
+use Rattle.hem_trace.specs.History.{head_seen}
 use Rattle.hem_trace.specs.Blocks.{Each}
 use Rattle.hem_law.specs.Chains.{IsChain}
 use Rattle.hem_law.specs.Flows.{taken_on, all_taken}

@@ -21,7 +21,8 @@ use Rattle.hem_rows.proofs.Choices.{both}
 use Rattle.hem_law.proofs.Taken.{HasMessage, takes-there, kid-at}
 use Rattle.hem_parts.specs.Parts.{Part, messages_of}
 use Rattle.hem_parts.specs.Stamps.{first_stamp, IsStamp, last_stamp}
-use Rattle.hem_parts.specs.Steps.{IsNext, event_of, head_among, first_message, first_request, heads_from, taken_from}
+use Rattle.hem_parts.specs.Steps.{IsNext, head_among, first_message, first_request, heads_from, taken_from}
+use Rattle.hem_system.specs.Events.{event_of}
 use Rattle.hem_parts.proofs.Step.{stamp-same}
 use Rattle.hem_parts.proofs.Fired.{fired-steps, fired-sees}
 

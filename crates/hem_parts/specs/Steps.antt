@@ -12,7 +12,7 @@ use Rattle.hem_fire.specs.OneFire.{Heads}
 use Rattle.hem_system.specs.declared.lane.Lane.{Lane}
 use Rattle.hem_system.specs.declared.lane.Lane.TheVariants.{UpRequests, UpResponses, Down, Requests, Answers}
 use Rattle.hem_system.specs.State.{Effect, takes, taker_of}
-use Rattle.hem_trace.specs.History.{Event}
+use Rattle.hem_system.specs.Events.{Event, event_of}
 use Rattle.hem_law.specs.Chains.{ChainStep}
 use Rattle.hem_law.specs.Flows.{taken_on}
 use Rattle.hem_parts.specs.Parts.{Made, Part, messages_of, carried_on}
@@ -39,10 +39,6 @@ pub record IsNext (p : Protocol) (tree : Tree) (l o : ℕ) (part : Part) (end : 
   pub asks : taken_on tree o Requests x.event ++ rest ≡ left
   pub takes : (k : ℕ) (lane : Lane) → lane ≢ Requests → taker_of tree k lane ≡ Some o → messages_of (taken k lane) ≡ taken_on tree k lane x.event
   pub stamp : IsStamp tree taken (last_stamp 0 part.made) x.event x.stamp
-
--- the event of a firing with an effect
-abbrev pub event_of : Firing → Effect → Event
-event_of f e = record { firing = f; took = e.took; outs = e.outs }
 
 -- the head of a list, among those of an object's input lists
 abbrev pub head_among : Tree → ℕ → Heads → ℕ → Lane → Option Message

@@ -15,7 +15,8 @@ ghost use Rattle.hem_fire.specs.OneFire.{Heads};
 ghost use Rattle.hem_system.specs.declared.lane.Lane.{Lane};
 ghost use Rattle.hem_system.specs.declared.lane.Lane.TheVariants.{Requests};
 ghost use Rattle.hem_system.specs.State.{State, Effect, is_own_child, own_effect, takes, start, run};
-ghost use Rattle.hem_trace.specs.History.{Event, Channel, Sent, Taken, events, head_seen};
+ghost use Rattle.hem_system.specs.Events.{Event, event_of};
+ghost use Rattle.hem_trace.specs.History.{Channel, Sent, Taken, events, head_seen};
 ghost use Rattle.hem_trace.specs.Blocks.{Each, SameFirings};
 ghost use Rattle.hem_law.specs.Chains.{firings, ChainStep};
 ghost use Rattle.hem_law.specs.Printed.{IsFresh};
@@ -24,7 +25,7 @@ ghost use Rattle.hem_parts.specs.Tied.{IsPart, AreTied};
 ghost use Rattle.hem_parts.specs.Merged.{stamped_of, IsSorted, all_made, made_on, made_at, merged, journal, IsMergeOf};
 ghost use Rattle.hem_parts.specs.Divided.{divided, IsStampedRun};
 ghost use Rattle.hem_parts.specs.Restamped.{Clocks, right_stamp, stamped_history, restamped};
-ghost use Rattle.hem_parts.specs.Steps.{empty_part, lengthened, IsNext, event_of, head_among, heads_from, taken_from};
+ghost use Rattle.hem_parts.specs.Steps.{empty_part, lengthened, IsNext, head_among, heads_from, taken_from};
 ghost use Rattle.hem_parts.specs.Stamps.{IsStamp, last_stamp};
 
 /// Tied parts, merged in any order in which no stamp falls, run from the state before them to the state after them, and
