@@ -19,15 +19,7 @@ use Rattle.hem_abstract.specs.Abstract.{Abstract, status, occurs, abstract_of}
 use Rattle.hem_abstract.specs.Partners.{after_one, after, is_new_val}
 use Rattle.hem_rows.proofs.Choices.{both}
 use Rattle.hem_abstract.proofs.Exact.{bits-where}
-
--- whether a set is of the requester's entry, and of the targets' entries
-abbrev pub is_me : Assign → Bool
-is_me (assign.Me s) = true
-is_me _ = false
-
-abbrev pub is_targets : Assign → Bool
-is_targets (assign.Targets s) = true
-is_targets _ = false
+use Rattle.hem_abstract.specs.Exact.{is_me, is_targets, AreAwaited, KnowsTargets}
 
 -- the fields change alike
 fields-own : (before : Local) (view : View) (targets : StatusSet) (a : Assign) (local : Local) (at : Abstract) → at.fields ≡ local.fields → (after_one targets a at).fields ≡ (assign_own before view a local).fields
@@ -85,11 +77,6 @@ bits-alike f g (suc n) same =
     let rest = bits-alike f g n (λ x less. same x (omega arith)) in
     let here = same n (omega arith) in
     rw (rest, here) refl
-
--- the awaited children are those whose status is a target
-abbrev pub AreAwaited : (ℕ → Bool) → StatusSet → ℕ → List Status8 → Type 0
-AreAwaited awaited targets k [] = Unit {0}
-AreAwaited awaited targets k (d ∷ dir) = (awaited k ≡ has targets d) × AreAwaited awaited targets (k + 1) dir
 
 -- the statuses that occur after a set of the targets
 occurs-set : (awaited : ℕ → Bool) (targets : StatusSet) (s : Status8) (k : ℕ) (dir : List Status8) (x : ℕ) → AreAwaited awaited targets k dir → occurs (set_at s awaited k dir) x ≡ ((occurs dir x && not (has targets (status x))) || (list_any (has targets) dir && s.0 == x))
@@ -158,10 +145,6 @@ no-more s (assign.Me t ∷ sets) none = no-more s sets none
 not-true : (b : Bool) → not b ≡ true → b ≡ false
 not-true true is = cc
 not-true false is = refl
-
--- what the targets' statuses are worth knowing for
-abbrev pub KnowsTargets : View → StatusSet → List Assign → List Status8 → Type 0
-KnowsTargets view targets sets dir = list_any is_targets sets ≡ true → AreAwaited (has_bit view.awaited.0) targets 0 dir × (list_any (has targets) dir ≡ true)
 
 targets-sets : (view : View) (targets : StatusSet) (sets : List Assign) (local : Local) (at : Abstract) → set_once sets ≡ true → at.kids ≡ (abstract_of local).kids → KnowsTargets view targets sets local.dir → (after at sets targets).kids ≡ (abstract_of (in_turn (assign_targets view) sets local)).kids
 targets-sets view targets [] local at once same knows = same

@@ -1,6 +1,6 @@
 -- A partner that doesn't break a waiting request in the abstract state leaves its guard and value in the local state.
 use Rattle.std.proofs.Common.{◌≡◌, refl, ap, sym, ◌∙◌, subst, ℕ, zero, suc, ◌+◌, ◌<◌, Bool, true, false, not, ◌&&◌, List, [], ◌∷◌, length, arith, Option, Some, None}
-use Rattle.std.specs.Prelude.{◌==◌, ◌||◌, slice_get, is_some, option_map}
+use Rattle.std.specs.Prelude.{◌==◌, ◌||◌, slice_get, is_some, option_map, Ok}
 use Rattle.std.specs.List.{list_any, list_all}
 use Rattle.std.specs.Option.{option_map_or}
 use Rattle.std.proofs.lemmas.Bool.{eqb-true, eq-eqb}
@@ -25,7 +25,7 @@ use Rattle.hem_syntax.specs.Protocol.{Protocol, class_of, is_request}
 use Rattle.hem_object.specs.Local.{Local}
 use Rattle.hem_object.specs.Guard.{has, is_in}
 use Rattle.hem_syntax.specs.Lawful.{set_once}
-use Rattle.hem_template.specs.Template.{row_of, may_name_requester, has_kept, has_rs, atom_fits, set_fits, is_leaf, reads_me, guard_sees_me}
+use Rattle.hem_template.specs.Template.{template_of, row_of, may_name_requester, has_kept, has_rs, atom_fits, set_fits, is_leaf, reads_me, guard_sees_me}
 use Rattle.hem_template.specs.declared.row.Row.{Row}
 use Rattle.hem_object.specs.Targets.{targets_of}
 use Rattle.hem_object.specs.Changes.{assigned, freed, locked}
@@ -37,8 +37,11 @@ use Rattle.hem_abstract.specs.Abstract.{Abstract, all_statuses, guard_at, atom_a
 use Rattle.hem_abstract.specs.Partners.{after, Partner, alone, pair, happens, after_partner, changes_val, breaks, sends_val, taken_from_parent}
 use Rattle.hem_rows.proofs.Choices.{chosen, both}
 use Rattle.hem_abstract.proofs.Exact.{bits-where, guard-exact, kids_any-exact}
-use Rattle.hem_abstract.proofs.AfterExact.{is_me, is_targets, bits-alike, AreAwaited, after-exact, val-exact}
+use Rattle.hem_abstract.proofs.AfterExact.{bits-alike, after-exact, val-exact}
+use Rattle.hem_abstract.specs.Exact.{is_me, is_targets, AreAwaited, StillStands}
+use Rattle.hem_fire.specs.OneFire.{OneFire}
 use Rattle.hem_rows.specs.Rows.{IsOfRow}
+use Rattle.hem_rows.proofs.Rows.{of_row}
 use Rattle.hem_abstract.proofs.OneRule.{Does, can-parts, names-parts}
 use Rattle.hem_abstract.proofs.DownwardFrames.{imm_up, rq_down_down, rs_up_up, request-kept}
 use Rattle.hem_abstract.proofs.TemplateForms.{is-imm_up, is-rq_down_down, is-rs_up_up}
@@ -81,11 +84,6 @@ no-targets kind row (assign.Targets s ∷ sets) none fits = let rs = (both (has_
 no-targets kind row (assign.Field i s ∷ sets) none fits = no-targets kind row sets none fits
 no-targets kind row (assign.Val v ∷ sets) none fits = no-targets kind row sets none fits
 no-targets kind row (assign.Me s ∷ sets) none fits = no-targets kind row sets none (both (may_name_requester row && not (is_leaf kind)) (list_all (set_fits kind row) sets) fits).1
-
--- what is left of a waiting request
-pub record StillStands (u : Rule) (before after : Local) : Type 0 where
-  pub guard : guard_at u.guard (abstract_of after) None ≡ true
-  pub value : sends_val u ≡ true → after.val ≡ before.val
 
 -- by a partner that happens and doesn't break it
 unbroken : (u : Rule) (d : Partner) (at : Abstract) → guard_at u.guard at None ≡ true → happens d at ≡ true → breaks u d at ≡ false → (guard_at u.guard (after_partner d at) None ≡ true) × (sends_val u ≡ true → changes_val d ≡ false)
@@ -222,3 +220,16 @@ pair-keeps p kind u q r mq mr local hq hr mid next outs_q outs_r of_q of_r once 
         turned true false = refl
         turned false true = refl
         turned false false = refl
+
+-- a firing of a rule, as the definition of firings says it
+does_of : (p : Protocol) (kind : Kind) (rule : Rule) (me : Option ℕ) (local : Local) (heads : Heads) (next : Local) (outs : Outs) → OneFire p kind rule me local heads next outs → Does p kind rule me local heads next outs
+does_of p kind rule me local heads next outs fires = record { can = fires.possible; leaves = sym fires.leaves; gives = sym fires.gives }
+
+-- what a partner leaves of a waiting request, by the templates of its rules
+pub alone-leaves : (p : Protocol) (kind : Kind) (u d : Rule) (me : Option ℕ) (local : Local) (heads : Heads) (next : Local) (outs : Outs) → template_of p kind d ≡ Ok ImmUp → set_once d.sets ≡ true → AreSmall local.dir → OneFire p kind d me local heads next outs → guard_at u.guard (abstract_of local) None ≡ true → breaks u (alone d) (abstract_of local) ≡ false → StillStands u local next
+alone-leaves p kind u d me local heads next outs template once small fires guarded whole =
+    alone-keeps p kind u d me local heads next outs (of_row p kind d ImmUp template) once small (does_of p kind d me local heads next outs fires) guarded whole
+
+pub pair-leaves : (p : Protocol) (kind : Kind) (u q r : Rule) (mq mr : Option ℕ) (local : Local) (hq hr : Heads) (mid next : Local) (outs_q outs_r : Outs) → template_of p kind q ≡ Ok RqDownDown → template_of p kind r ≡ Ok RsUpUp → set_once r.sets ≡ true → AreSmall local.dir → OneFire p kind q mq local hq mid outs_q → OneFire p kind r mr mid hr next outs_r → guard_at u.guard (abstract_of local) None ≡ true → breaks u (pair q r) (abstract_of local) ≡ false → StillStands u local next
+pair-leaves p kind u q r mq mr local hq hr mid next outs_q outs_r first second once small fires_q fires_r guarded whole =
+    pair-keeps p kind u q r mq mr local hq hr mid next outs_q outs_r (of_row p kind q RqDownDown first) (of_row p kind r RsUpUp second) once small (does_of p kind q mq local hq mid outs_q fires_q) (does_of p kind r mr mid hr next outs_r fires_r) guarded whole

@@ -38,7 +38,8 @@ use Rattle.hem_abstract.proofs.OneRule.{Does}
 use Rattle.hem_abstract.proofs.DownwardFrames.{imm_up, rs_up_up}
 use Rattle.hem_abstract.proofs.TemplateForms.{is-imm_up, is-rs_up_up}
 use Rattle.hem_law.proofs.Pending.{does-from}
-use Rattle.hem_abstract.proofs.PartnersKeep.{StillStands, alone-keeps, pair-keeps}
+use Rattle.hem_abstract.proofs.PartnersKeep.{alone-keeps, pair-keeps}
+use Rattle.hem_abstract.specs.Exact.{StillStands}
 
 -- the sets leave the downlock
 turns-down : (change : Assign → Local → Local) (sets : List Assign) (local : Local) → ((a : Assign) (l : Local) → (change a l).down ≡ l.down) → (in_turn change sets local).down ≡ local.down
