@@ -17,7 +17,6 @@ use Rattle.hem_object.specs.Start.{first_local}
 use Rattle.hem_tree.specs.Tree.{Tree, Node, IsLawful, below, kind_of, children_of, place_among}
 use Rattle.hem_work.specs.Work.{Work, requests_of}
 use Rattle.hem_system.specs.State.{Cell, Line, State, LineStep, Step, Effect, effect_of, line_after, line_step_of, step_of, fire, run, Runs, first_cell, first_line, start}
-use Rattle.hem_system.specs.Steps.{LineFires}
 use Rattle.hem_system.proofs.Sets.{get_set_here, get_set_other}
 use Rattle.hem_rows.specs.Rows.{AllHaveTemplates}
 use Rattle.hem_locks.specs.Edges.{EdgeHolds, CellsHold, EdgesHold, ObjectHolds, ObjectsHold, LocksHold, AllLocksHold}
@@ -36,10 +35,6 @@ line_kept p tree line f e lawful templates possible holds =
       edges = edges_kept p tree line f e lawful it holds.edges;
       objects = objects_kept p tree line f e lawful it holds.objects;
     }
-
-pub line_fires-keeps : (p : Protocol) (tree : Tree) (old new : Line) (f : Firing) → IsLawful tree → AllHaveTemplates p → LineFires p tree old f new → LocksHold p tree old → LocksHold p tree new
-line_fires-keeps p tree old new f lawful templates fires holds =
-    subst (λ (line : Line). LocksHold p tree line) (sym fires.leads) (line_kept p tree old f fires.effect lawful templates fires.possible holds)
 
 -- a firing in a state is made on its line
 pub record IsMade (p : Protocol) (tree : Tree) (old : State) (f : Firing) (new : State) : Type 0 where
