@@ -21,7 +21,7 @@ use Rattle.hem_numbered.proofs.NormalRows.{normal_rows as rows_by_number}
 use Rattle.hem_orderly.proofs.Orderly.{history_normal, history_serial}
 use Rattle.hem_together.specs.Together.{StandTogether, StandThrice, HangTogether}
 use Rattle.hem_together.proofs.Joined.{stand_together, hang_together, stand_thrice}
-use Rattle.hem_check.proofs.Met.{templated, stable}
+use Rattle.hem_check.proofs.Clauses.{templated, stable}
 use Rattle.hem_serial.specs.Histories.{IsHistory, entries, printed_blocks, normal_entries, normal_order, normal_rows}
 
 -- the printed order is serial, and has the firings of the history

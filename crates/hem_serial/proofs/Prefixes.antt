@@ -10,7 +10,7 @@ use Rattle.hem_rows.proofs.Choices.{if_some}
 use Rattle.hem_locks.specs.Edges.{AllLocksHold}
 use Rattle.hem_locks.proofs.Laws.{few_messages}
 use Rattle.hem_locks.proofs.States.{reached-holds}
-use Rattle.hem_check.proofs.Met.{templated}
+use Rattle.hem_check.proofs.Clauses.{templated}
 use Rattle.hem_bound.specs.Starts.{starts}
 use Rattle.hem_bound.specs.Potential.{potential_of}
 use Rattle.hem_bound.proofs.Histories.{reached_after}
