@@ -7,6 +7,7 @@ use Rattle.hem_template.specs.declared.template_name.TemplateName.TheVariants.{I
 use Rattle.hem_syntax.specs.Protocol.{Protocol, rule_named}
 use Rattle.hem_template.specs.Template.{template_of}
 use Rattle.hem_tree.specs.Tree.{Tree, kind_of}
+use Rattle.hem_trace.specs.Templates.{template_at}
 
 -- the templates that an object fires, in order
 abbrev pub templates_at : Protocol → Tree → ℕ → List Firing → List TemplateName
