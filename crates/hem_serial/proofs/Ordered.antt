@@ -20,6 +20,8 @@ use Rattle.hem_law.proofs.Reordered.{entries-inside}
 use Rattle.hem_numbered.proofs.NormalRows.{normal_rows as rows_by_number}
 use Rattle.hem_orderly.proofs.Orderly.{history_normal, history_serial}
 use Rattle.hem_together.specs.Together.{StandTogether, StandThrice, HangTogether}
+use Rattle.hem_together.specs.HaveRoles.{GoOneWay}
+use Rattle.hem_together.proofs.OneWay.{one_way}
 use Rattle.hem_together.proofs.Joined.{stand_together, hang_together, stand_thrice}
 use Rattle.hem_check.proofs.Clauses.{templated, stable}
 use Rattle.hem_serial.specs.Histories.{IsHistory, entries, printed_blocks, normal_entries, normal_order, normal_rows}
@@ -56,6 +58,9 @@ three p tree work h s l it = stand_thrice p tree work h s s it.protocol it.lawfu
 
 pub connected : (p : Protocol) (tree : Tree) (work : Work) (h : List Firing) (s : State) (l : ℕ) → IsHistory p tree work h s → HangTogether tree (normal_rows p tree work h l)
 connected p tree work h s l it = hang_together p tree work h s s it.protocol it.lawful (templated p it.disciplined) it.runs (runs_normally p tree work h s it) l
+
+pub edges_one_way : (p : Protocol) (tree : Tree) (work : Work) (h : List Firing) (s : State) → IsHistory p tree work h s → GoOneWay p tree (entries p tree work h)
+edges_one_way p tree work h s it = one_way p tree work h s it.protocol it.lawful (templated p it.disciplined) it.runs
 
 rows : (p : Protocol) (tree : Tree) (work : Work) (h : List Firing) (s : State) (l : ℕ) → IsHistory p tree work h s → RowsAgree tree (normal_rows p tree work h l)
 rows p tree work h s l it =

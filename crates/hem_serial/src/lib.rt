@@ -12,8 +12,9 @@ ghost use Rattle.hem_trace.specs.Blocks.{IsSerial, SameFirings, firings_of};
 ghost use Rattle.hem_locks.specs.Edges.{AllLocksHold};
 ghost use Rattle.hem_law.specs.Orders.{stands_in, is_ahead, PrecedenceRanks};
 ghost use Rattle.hem_together.specs.Together.{StandTogether, StandThrice, HangTogether};
+ghost use Rattle.hem_together.specs.HaveRoles.{GoOneWay};
 ghost use Rattle.hem_bound.specs.Starts.{starts};
-ghost use Rattle.hem_serial.specs.Histories.{IsHistory, ListsAreShort, printed_blocks, normal_entries, normal_order, normal_rows};
+ghost use Rattle.hem_serial.specs.Histories.{IsHistory, ListsAreShort, entries, printed_blocks, normal_entries, normal_order, normal_rows};
 
 /// Serializability. Of a history of a disciplined protocol, on a lawful tree, that runs from the start to a state: its
 /// blocks in the printed order are serial and lead to that state, and they have the same firings.
@@ -49,6 +50,12 @@ pub fn transactions_stand_together_at_each_object()
 /// A transaction's objects are connected in the tree: of two of them the later one's parent is one too.
 pub fn objects_of_transactions_are_connected()
     ensures { (p : Protocol) (tree : Tree) (work : Work) (h : List Firing) (s : State) (l : ℕ) → IsHistory p tree work h s → HangTogether tree (normal_rows p tree work h l) }
+{}
+
+/// A transaction uses each edge in one way at most: at no object does it both send a request to the parent and take one of
+/// the parent.
+pub fn transactions_use_each_edge_in_one_way()
+    ensures { (p : Protocol) (tree : Tree) (work : Work) (h : List Firing) (s : State) → IsHistory p tree work h s → GoOneWay p tree (entries p tree work h) }
 {}
 
 /// Parent and child agree: two transactions that both fire at an object and at its parent stand in the same order at both.
