@@ -26,7 +26,8 @@ use Rattle.hem_system.specs.State.{State, Effect, Step, LineStep, heads_of, is_o
 use Rattle.hem_system.specs.Events.{Event, event_of}
 use Rattle.hem_trace.specs.History.{events, channels_taken}
 use Rattle.hem_trace.specs.Blocks.{Each}
-use Rattle.hem_trace.specs.Order.{is_upward_template, is_upward}
+use Rattle.hem_trace.specs.Order.{is_upward}
+use Rattle.hem_template.specs.Waiting.{is_upward_template}
 use Rattle.hem_trace.specs.OneStep.{is_answer_template, answers_at_once, is_one_step}
 
 -- an event that takes nothing from a channel, of a firing that the normal form never moves

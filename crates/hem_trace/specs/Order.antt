@@ -1,15 +1,13 @@
 -- The normal order of a history, and the order in which transactions are printed.
-use Rattle.std.specs.Prelude.{ℕ, ◌==◌, ◌+◌, nat_lt, Bool, true, false, not, ◌&&◌, ◌||◌, cond, zero, suc, List, [], ◌∷◌, ◌++◌, length, map, filter, flat_map, find, Option, None, Some, Result, Ok}
+use Rattle.std.specs.Prelude.{ℕ, ◌==◌, ◌+◌, nat_lt, Bool, true, false, not, ◌&&◌, ◌||◌, cond, zero, suc, List, [], ◌∷◌, ◌++◌, length, map, filter, flat_map, find, Option, None, Some}
 use Rattle.std.specs.List.{list_any}
 use Rattle.std.specs.Option.{option_map_or}
 use Rattle.hem_base.specs.declared.ids.Firing.{Firing}
-use Rattle.hem_template.specs.declared.template_name.TemplateName.{TemplateName}
-use Rattle.hem_template.specs.declared.template_name.TemplateName.TheVariants.{RqUp, RqUpSelf}
-use Rattle.hem_template.specs.declared.clause.Clause.{Clause}
 use Rattle.hem_syntax.specs.Protocol.{Protocol, rule_named}
 use Rattle.hem_tree.specs.Tree.{Tree, kind_of, level_of}
 use Rattle.hem_system.specs.State.{State}
 use Rattle.hem_template.specs.Template.{template_of}
+use Rattle.hem_template.specs.Waiting.{is_upward_template}
 use Rattle.hem_system.specs.Events.{Event}
 use Rattle.hem_trace.specs.History.{events}
 use Rattle.hem_trace.specs.Tags.{numbers_of}
@@ -23,13 +21,7 @@ pub record Entry : Type 0 where
   pub level : ℕ
   pub upward : Bool
 
--- whether a template sends a request up and waits for the answer
-abbrev pub is_upward_template : Result TemplateName Clause → Bool
-is_upward_template (Ok RqUp) = true
-is_upward_template (Ok RqUpSelf) = true
-is_upward_template _ = false
-
--- whether a firing is of such a template
+-- whether a firing sends a request up and waits for the answer
 abbrev pub is_upward : Protocol → Tree → Firing → Bool
 is_upward p tree f =
     option_map_or (λ kind. option_map_or (λ rule. is_upward_template (template_of p kind rule)) (rule_named p kind f.rule) false)

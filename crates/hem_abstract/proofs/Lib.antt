@@ -1,0 +1,9 @@
+pub mod Exact
+pub mod AfterExact
+pub mod StableNever
+pub mod OneRule
+pub mod UplockUnseen
+pub mod DownwardFrames
+pub mod TemplateForms
+pub mod UpwardMoves
+pub mod PartnersKeep

@@ -1,0 +1,4 @@
+pub mod Abstract
+pub mod Partners
+pub mod Stable
+pub mod Exact
