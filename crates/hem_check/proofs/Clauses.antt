@@ -1,7 +1,7 @@
 -- What it means that a rule meets all clauses.
 use Rattle.std.proofs.Common.{◌≡◌, refl, sym, ap, ◌∙◌, subst, Bool, true, false, ◌&&◌, cond, List, [], ◌∷◌, ◌++◌, Option, Some, None}
 use Rattle.std.specs.Prelude.{◌==◌, ◌↔◌, Result, Ok, Err, find, filter_map, slice_get, option_map, is_none}
-use Rattle.std.specs.List.{list_all}
+use Rattle.std.specs.List.{list_all, cons_option}
 use Rattle.hem_base.specs.declared.ids.Kind.{Kind}
 use Rattle.hem_base.specs.declared.ids.Kind.TheVariants.{Root, Mid, Leaf}
 use Rattle.hem_base.specs.declared.ids.RuleId.{RuleId}
@@ -53,7 +53,7 @@ none_left : {A B : Type 0} (broken : A → Option B) (xs : List A) → (filter_m
 none_left broken [] = (λ none. refl, λ all. refl)
 none_left {B = B} broken (x ∷ xs) = by_first (broken x) (none_left broken xs)
   where
-    by_first : (o : Option B) → (filter_map broken xs ≡ []) ↔ (list_all (λ x. is_none (broken x)) xs ≡ true) → ((elim o as (λ o. List B) [ None ↦ filter_map broken xs | Some b ↦ b ∷ filter_map broken xs ]) ≡ []) ↔ ((is_none o && list_all (λ x. is_none (broken x)) xs) ≡ true)
+    by_first : (o : Option B) → (filter_map broken xs ≡ []) ↔ (list_all (λ x. is_none (broken x)) xs ≡ true) → (cons_option o (filter_map broken xs) ≡ []) ↔ ((is_none o && list_all (λ x. is_none (broken x)) xs) ≡ true)
     by_first None rest = rest
     by_first (Some b) rest = (λ none. cc, λ all. cc)
 
