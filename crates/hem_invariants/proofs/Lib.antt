@@ -1,0 +1,4 @@
+pub mod Choices
+pub mod LocalSets
+pub mod LocalLocks
+pub mod LocalKept
