@@ -5,4 +5,5 @@ pub mod LocalKept
 pub mod Next
 pub mod StatesKept
 pub mod Starts
-pub mod Lacked
+pub mod Missing
+pub mod Taken

@@ -66,12 +66,13 @@ me-origin Root id (Some c) size children same fits = let less = ltb-true c size 
 me-origin Mid id None size children same fits = cc
 me-origin Mid id (Some c) size children same fits = let less = ltb-true c size fits in omega arith
 
--- the parent and the object itself are possible origins
+-- the parent is a possible origin
 parent-origin : (kind : Kind) (children : ℕ) → IsOrigin kind children Parent
 parent-origin Leaf children = tt
 parent-origin Root children = tt
 parent-origin Mid children = tt
 
+-- so is the object itself
 own-origin : (kind : Kind) (children : ℕ) → IsOrigin kind children Own
 own-origin Leaf children = tt
 own-origin Root children = tt
@@ -81,11 +82,12 @@ own-origin Mid children = tt
 none-below : (n : ℕ) → 0 < 2 ^ n
 none-below n = omega (arith, bits_where-lt (λ k. false) n)
 
--- those whom a lock awaits are children, and an uplock awaits nobody
+-- those whom a lock awaits are children
 awaited-below : (to : Side) (children : ℕ) (targets : KidSet) → targets.0 < 2 ^ children → (awaited_by to targets).0 < 2 ^ children
 awaited-below side.Up children targets below = none-below children
 awaited-below side.Down children targets below = below
 
+-- an uplock awaits nobody
 up-awaits-nobody : (to : Side) (targets : KidSet) → to ≡ side.Up → awaited_by to targets ≡ nobody
 up-awaits-nobody side.Up targets is = refl
 up-awaits-nobody side.Down targets is = cc
@@ -129,12 +131,13 @@ module _ (p : Protocol) (kind : Kind) (children : ℕ) (local : Local) (formed :
         subst (IsOrigin kind children) it.2 ((formed.down it.0 it.1).origin)
     requester-origin take.Nothing me heads by fits is = cc
 
-    -- the request that a lock keeps is declared
+    -- the request that the uplock keeps is declared
     kept-up : (m : Message) → request_of local.up ≡ Some m → IsDeclared p m
     kept-up m is =
         let it = if_mapped (λ (l : Lock). l.request) local.up m is in
         subst (IsDeclared p) it.2 (formed.up it.0 it.1).0.declared_id
 
+    -- and so is that of the downlock
     kept-down : (m : Message) → request_of local.down ≡ Some m → IsDeclared p m
     kept-down m is =
         let it = if_mapped (λ (l : Lock). l.request) local.down m is in

@@ -65,26 +65,37 @@ module _ (p : Protocol) (tree : Tree) (old new : State) (f : Firing) (it : Came 
     other-line : (l : ℕ) → (l == f.line.0) ≡ false → slice_get new l ≡ slice_get old l
     other-line l differs = ap (λ (s : State). slice_get s l) it.after ∙ get_set_other old f.line.0 l (line_after tree f it.effect it.line) (not_number l f.line.0 differs)
 
-    -- a list stays as it was, or it is on the line of the firing, which takes from it and sends to it
-    pub list-next : (l k : ℕ) (lane : Lane) → (list_in new l k lane ≡ list_in old l k lane) ⊎ ((l ≡ f.line.0) × (list_in new l k lane ≡ list_after tree f it.effect.outs k lane (list_in old l k lane)))
-    list-next l k lane = by_line (l == f.line.0) refl
+    -- a list of another line stays
+    pub list-elsewhere : (l k : ℕ) (lane : Lane) → (l == f.line.0) ≡ false → list_in new l k lane ≡ list_in old l k lane
+    list-elsewhere l k lane differs = ap (λ (o : Option Line). option_map_or (λ cell. list_of cell lane) (option_and_then (λ line. slice_get line k) o) []) (other-line l differs)
+
+    -- a list of the firing's line is taken from and sent to, or its object isn't there
+    pub list-here : (k : ℕ) (lane : Lane) → ((list_in new f.line.0 k lane ≡ []) × (list_in old f.line.0 k lane ≡ [])) ⊎ (list_in new f.line.0 k lane ≡ list_after tree f it.effect.outs k lane (list_in old f.line.0 k lane))
+    list-here k lane = by_cell (slice_get it.line k) refl
       where
-        by_cell : (found : Option Cell) → slice_get it.line k ≡ found → (list_in new f.line.0 k lane ≡ list_in old f.line.0 k lane) ⊎ ((f.line.0 ≡ f.line.0) × (list_in new f.line.0 k lane ≡ list_after tree f it.effect.outs k lane (list_in old f.line.0 k lane)))
+        by_cell : (found : Option Cell) → slice_get it.line k ≡ found → ((list_in new f.line.0 k lane ≡ []) × (list_in old f.line.0 k lane ≡ [])) ⊎ (list_in new f.line.0 k lane ≡ list_after tree f it.effect.outs k lane (list_in old f.line.0 k lane))
         by_cell None at =
             let now = cell_now it k ∙ ap (option_map (cell_after tree f it.effect k)) at in
             let was = cell_before it k ∙ at in
-            inl (ap (λ o. option_map_or (λ cell. list_of cell lane) o []) now ∙ sym (ap (λ o. option_map_or (λ cell. list_of cell lane) o []) was))
+            inl (ap (λ o. option_map_or (λ cell. list_of cell lane) o []) now, ap (λ o. option_map_or (λ cell. list_of cell lane) o []) was)
         by_cell (Some cell) at =
             let now = cell_now it k ∙ ap (option_map (cell_after tree f it.effect k)) at in
             let was = cell_before it k ∙ at in
-            inr (refl,
-              ap (λ o. option_map_or (λ cell. list_of cell lane) o []) now
+            inr (ap (λ o. option_map_or (λ cell. list_of cell lane) o []) now
               ∙ list_of-after tree f it.effect k cell lane
               ∙ sym (ap (λ o. list_after tree f it.effect.outs k lane (option_map_or (λ cell. list_of cell lane) o [])) was))
 
-        by_line : (b : Bool) → (l == f.line.0) ≡ b → (list_in new l k lane ≡ list_in old l k lane) ⊎ ((l ≡ f.line.0) × (list_in new l k lane ≡ list_after tree f it.effect.outs k lane (list_in old l k lane)))
-        by_line false differs = inl (ap (λ (o : Option Line). option_map_or (λ cell. list_of cell lane) (option_and_then (λ line. slice_get line k) o) []) (other-line l differs))
-        by_line true same = subst (λ m. (list_in new m k lane ≡ list_in old m k lane) ⊎ ((m ≡ f.line.0) × (list_in new m k lane ≡ list_after tree f it.effect.outs k lane (list_in old m k lane)))) (sym (eqb-true l f.line.0 same)) (by_cell (slice_get it.line k) refl)
+    -- so a list stays as it was, or it is on the line of the firing, which takes from it and sends to it
+    pub list-next : (l k : ℕ) (lane : Lane) → (list_in new l k lane ≡ list_in old l k lane) ⊎ (list_in new l k lane ≡ list_after tree f it.effect.outs k lane (list_in old l k lane))
+    list-next l k lane = by_line (l == f.line.0) refl
+      where
+        here : ((list_in new f.line.0 k lane ≡ []) × (list_in old f.line.0 k lane ≡ [])) ⊎ (list_in new f.line.0 k lane ≡ list_after tree f it.effect.outs k lane (list_in old f.line.0 k lane)) → (list_in new f.line.0 k lane ≡ list_in old f.line.0 k lane) ⊎ (list_in new f.line.0 k lane ≡ list_after tree f it.effect.outs k lane (list_in old f.line.0 k lane))
+        here (inl none) = inl (none.0 ∙ sym none.1)
+        here (inr next) = inr next
+
+        by_line : (b : Bool) → (l == f.line.0) ≡ b → (list_in new l k lane ≡ list_in old l k lane) ⊎ (list_in new l k lane ≡ list_after tree f it.effect.outs k lane (list_in old l k lane))
+        by_line false differs = inl (list-elsewhere l k lane differs)
+        by_line true same = subst (λ m. (list_in new m k lane ≡ list_in old m k lane) ⊎ (list_in new m k lane ≡ list_after tree f it.effect.outs k lane (list_in old m k lane))) (sym (eqb-true l f.line.0 same)) (here (list-here k lane))
 
     -- a local state stays as it was, or it is the firing's own
     pub local-next : (l k : ℕ) → (local_in new l k ≡ local_in old l k) ⊎ ((l ≡ f.line.0) × (k ≡ f.object.0) × ((local : Local) → local_in new l k ≡ Some local → local ≡ it.effect.after))

@@ -56,6 +56,7 @@ dir-of p Root children lawful none = first-dir p children p.root.dir lawful.root
 dir-of p Mid children lawful none = first-dir p children p.mid.dir lawful.mid_dir
 dir-of p Leaf children lawful none = no-dir p children p.leaf.dir lawful.leaf_dir (none refl)
 
+-- of each kind the first statuses are declared
 starts-of : (p : Protocol) (kind : Kind) → IsProtocol p → list_all (λ (f : Text × Status8). nat_lt f.1.0 (length p.statuses)) (part p kind).fields ≡ true
 starts-of p Root lawful = lawful.root.starts
 starts-of p Mid lawful = lawful.mid.starts
@@ -93,6 +94,7 @@ first-line-at p tree work l line at =
     let it = if_mapped (λ m. first_line p tree (requests_of work m)) (slice_get (below work.lines) l) line (sym (slice_get-map (λ m. first_line p tree (requests_of work m)) (below work.lines) l) ∙ at) in
     (it.0, it.2)
 
+-- an object at the start is one of a node of the tree
 pub first-at : (p : Protocol) (tree : Tree) (work : Work) (l o : ℕ) (cell : Cell) → cell_at (start p tree work) l o ≡ Some cell → First p tree work o cell
 first-at p tree work l o cell at =
     let line = if_some (λ line. slice_get line o) (slice_get (start p tree work) l) cell at in

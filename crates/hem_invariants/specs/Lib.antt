@@ -1,3 +1,3 @@
 pub mod Declared
 pub mod Formed
-pub mod Lacking
+pub mod Missing

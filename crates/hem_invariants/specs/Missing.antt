@@ -19,5 +19,5 @@ has_list Mid Answers = false
 has_list Leaf lane = true
 
 -- each list that an object lacks is empty
-abbrev pub LackedAreEmpty : Tree → State → Type 0
-LackedAreEmpty tree s = (l o : ℕ) (kind : Kind) (lane : Lane) → kind_of tree o ≡ Some kind → has_list kind lane ≡ false → list_in s l o lane ≡ []
+abbrev pub MissingAreEmpty : Tree → State → Type 0
+MissingAreEmpty tree s = (l o : ℕ) (kind : Kind) (lane : Lane) → kind_of tree o ≡ Some kind → has_list kind lane ≡ false → list_in s l o lane ≡ []

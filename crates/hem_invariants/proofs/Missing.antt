@@ -37,7 +37,7 @@ use Rattle.hem_system.specs.Laws.{list_in}
 use Rattle.hem_system.proofs.Takers.{and_left, parent_is}
 use Rattle.hem_system.proofs.Own.{Came, came}
 use Rattle.hem_invariants.specs.Formed.{IsFormed}
-use Rattle.hem_invariants.specs.Lacking.{has_list, LackedAreEmpty}
+use Rattle.hem_invariants.specs.Missing.{has_list, MissingAreEmpty}
 use Rattle.hem_invariants.proofs.Choices.{both, if_some}
 use Rattle.hem_invariants.proofs.LocalLocks.{requester-origin}
 use Rattle.hem_invariants.proofs.LocalKept.{can_fire-parts}
@@ -106,6 +106,41 @@ never-true : (b : Bool) → (b ≡ true → ⊥) → b ≡ false
 never-true true never = absurd (never refl)
 never-true false never = refl
 
+-- no firing sends to the requests
+requests-unreached : (tree : Tree) (f : Firing) (whom : To) (k : ℕ) → reaches tree f whom k Requests ≡ false
+requests-unreached tree f to.Nobody k = refl
+requests-unreached tree f to.Answer k = refl
+requests-unreached tree f (to.Kid c) k = refl
+requests-unreached tree f to.UpRequest k = refl
+requests-unreached tree f to.UpResponse k = refl
+requests-unreached tree f (to.Kids set) k = refl
+
+-- a root's lists to a parent are reached by nobody that sends nothing up and isn't its parent
+root-unreached : (tree : Tree) (f : Firing) (k : ℕ) (lane : Lane) (whom : To) → (whom ≡ to.Answer → (k == f.object.0) ≡ true → ⊥) → ((k == f.object.0) ≡ true → (whom ≡ to.UpRequest → ⊥) × (whom ≡ to.UpResponse → ⊥)) → (is_child tree k f.object.0 ≡ true → ⊥) → reaches tree f whom k lane ≡ true → ⊥
+root-unreached tree f k UpRequests to.UpRequest answers ups child reached = (ups reached).0 refl
+root-unreached tree f k UpResponses to.UpResponse answers ups child reached = (ups reached).1 refl
+root-unreached tree f k Answers to.Answer answers ups child reached = answers refl reached
+root-unreached tree f k Down (to.Kid c) answers ups child reached = child (and_left (is_child tree k f.object.0) (place_among tree f.object.0 k == c) reached)
+root-unreached tree f k Down (to.Kids set) answers ups child reached = child (and_left (is_child tree k f.object.0) (has_bit set.0 (place_among tree f.object.0 k)) reached)
+root-unreached tree f k Requests whom answers ups child reached = let clash : true ≡ false = sym reached ∙ requests-unreached tree f whom k in cc
+root-unreached tree f k lane whom answers ups child reached = let clash : false ≡ true = reached in cc
+
+-- a mid's answers are reached by an answer alone
+answers-reached : (tree : Tree) (f : Firing) (k : ℕ) (whom : To) → reaches tree f whom k Answers ≡ true → (whom ≡ to.Answer) × ((k == f.object.0) ≡ true)
+answers-reached tree f k to.Answer reached = (refl, reached)
+answers-reached tree f k to.Nobody reached = absurd (let clash : false ≡ true = reached in cc)
+answers-reached tree f k (to.Kid c) reached = absurd (let clash : false ≡ true = reached in cc)
+answers-reached tree f k to.UpRequest reached = absurd (let clash : false ≡ true = reached in cc)
+answers-reached tree f k to.UpResponse reached = absurd (let clash : false ≡ true = reached in cc)
+answers-reached tree f k (to.Kids set) reached = absurd (let clash : false ≡ true = reached in cc)
+
+-- what an object of a kind lacks is not reached
+never-reached : (tree : Tree) (f : Firing) (k : ℕ) (kind : Kind) (lane : Lane) (whom : To) → (whom ≡ to.Answer → (k == f.object.0) ≡ true → kind ≡ Leaf) → (kind ≡ Root → (k == f.object.0) ≡ true → (whom ≡ to.UpRequest → ⊥) × (whom ≡ to.UpResponse → ⊥)) → (kind ≡ Root → is_child tree k f.object.0 ≡ true → ⊥) → has_list kind lane ≡ false → reaches tree f whom k lane ≡ true → ⊥
+never-reached tree f k Root lane whom answers ups child lacks reached = root-unreached tree f k lane whom (λ is same. let leaf : Root ≡ Leaf = answers is same in cc) (ups refl) (child refl) reached
+never-reached tree f k Mid Requests whom answers ups child lacks reached = let clash : true ≡ false = sym reached ∙ requests-unreached tree f whom k in cc
+never-reached tree f k Mid Answers whom answers ups child lacks reached = let it = answers-reached tree f k whom reached in let leaf : Mid ≡ Leaf = answers it.0 it.1 in cc
+never-reached tree f k kind lane whom answers ups child lacks reached = let clash : true ≡ false = lacks in cc
+
 module _ (p : Protocol) (tree : Tree) (old new : State) (f : Firing) (lawful : IsLawful tree) (formed : IsFormed p tree old) (it : Came p tree old f new) where
     -- the kind of the object that fires
     kind-here : (at : At p tree old new f it) (k : ℕ) (kind : Kind) → (k == f.object.0) ≡ true → kind_of tree k ≡ Some kind → at.kind ≡ kind
@@ -136,45 +171,39 @@ module _ (p : Protocol) (tree : Tree) (old new : State) (f : Firing) (lawful : I
         ((λ is. never.0 (goes ∙ is)), (λ is. never.1 (goes ∙ is)))
 
     -- a firing reaches no list that an object lacks
-    never-reached : (at : At p tree old new f it) (k : ℕ) (kind : Kind) (lane : Lane) (whom : To) → it.effect.outs.to ≡ whom → kind_of tree k ≡ Some kind → has_list kind lane ≡ false → reaches tree f whom k lane ≡ true → ⊥
-    never-reached at k Leaf lane whom is kind_is lacks reached = let clash : true ≡ false = lacks in cc
-    never-reached at k Root UpRequests to.UpRequest is kind_is lacks reached = (root-sends_not_up at (kind-here at k Root reached kind_is)).0 is
-    never-reached at k Root UpResponses to.UpResponse is kind_is lacks reached = (root-sends_not_up at (kind-here at k Root reached kind_is)).1 is
-    never-reached at k Root Down (to.Kid c) is kind_is lacks reached = root-no_child tree k f.object.0 lawful kind_is (and_left (is_child tree k f.object.0) (place_among tree f.object.0 k == c) reached)
-    never-reached at k Root Down (to.Kids set) is kind_is lacks reached = root-no_child tree k f.object.0 lawful kind_is (and_left (is_child tree k f.object.0) (has_bit set.0 (place_among tree f.object.0 k)) reached)
-    never-reached at k kind Answers to.Answer is kind_is lacks reached = lacks-answers kind (sym (kind-here at k kind reached kind_is) ∙ answer-of_leaf at is) lacks
-      where
-        lacks-answers : (kind : Kind) → kind ≡ Leaf → has_list kind Answers ≡ false → ⊥
-        lacks-answers Leaf leaf lacks = let clash : true ≡ false = lacks in cc
-        lacks-answers Root leaf lacks = cc
-        lacks-answers Mid leaf lacks = cc
-    never-reached at k kind lane whom is kind_is lacks reached = cc
+    none-reached : (at : At p tree old new f it) (k : ℕ) (kind : Kind) (lane : Lane) → kind_of tree k ≡ Some kind → has_list kind lane ≡ false → reaches tree f it.effect.outs.to k lane ≡ true → ⊥
+    none-reached at k kind lane is lacks reached =
+        never-reached tree f k kind lane it.effect.outs.to
+        (λ answer same. sym (kind-here at k kind same is) ∙ answer-of_leaf at answer)
+        (λ root same. root-sends_not_up at (kind-here at k kind same is ∙ root))
+        (λ root child. root-no_child tree k f.object.0 lawful (is ∙ ap Some root) child)
+        lacks reached
 
     -- so a list that an object lacks stays empty
-    list-empty : LackedAreEmpty tree old → LackedAreEmpty tree new
+    list-empty : MissingAreEmpty tree old → MissingAreEmpty tree new
     list-empty empty l k kind lane kind_is lacks = by_change (list-next p tree old new f it l k lane)
       where
         nothing : (t r : Bool) (m : Message) (xs : List Message) → xs ≡ [] → r ≡ false → drop (cond t 1 0) xs ++ cond r (m ∷ []) [] ≡ []
         nothing true r m xs none not_sent = rw (none, not_sent) refl
         nothing false r m xs none not_sent = rw (none, not_sent) refl
 
-        by_change : (list_in new l k lane ≡ list_in old l k lane) ⊎ ((l ≡ f.line.0) × (list_in new l k lane ≡ list_after tree f it.effect.outs k lane (list_in old l k lane))) → list_in new l k lane ≡ []
+        by_change : (list_in new l k lane ≡ list_in old l k lane) ⊎ (list_in new l k lane ≡ list_after tree f it.effect.outs k lane (list_in old l k lane)) → list_in new l k lane ≡ []
         by_change (inl same) = same ∙ empty l k kind lane kind_is lacks
         by_change (inr next) =
-            next.1 ∙ nothing (takes tree f it.effect.outs k lane) (reaches tree f it.effect.outs.to k lane) it.effect.outs.message (list_in old l k lane) (empty l k kind lane kind_is lacks)
-            (never-true (reaches tree f it.effect.outs.to k lane) (never-reached (at-object p tree old new f it) k kind lane it.effect.outs.to refl kind_is lacks))
+            next ∙ nothing (takes tree f it.effect.outs k lane) (reaches tree f it.effect.outs.to k lane) it.effect.outs.message (list_in old l k lane) (empty l k kind lane kind_is lacks)
+            (never-true (reaches tree f it.effect.outs.to k lane) (none-reached (at-object p tree old new f it) k kind lane kind_is lacks))
 
 -- a firing keeps the lists empty that an object lacks
-pub step-lacked : (p : Protocol) (tree : Tree) (old new : State) (f : Firing) → IsLawful tree → IsFormed p tree old → LackedAreEmpty tree old → Fires p tree old f new → LackedAreEmpty tree new
-step-lacked p tree old new f lawful formed empty fires = list-empty p tree old new f lawful formed (came fires) empty
+pub step-missing : (p : Protocol) (tree : Tree) (old new : State) (f : Firing) → IsLawful tree → IsFormed p tree old → MissingAreEmpty tree old → Fires p tree old f new → MissingAreEmpty tree new
+step-missing p tree old new f lawful formed empty fires = list-empty p tree old new f lawful formed (came fires) empty
 
 -- and so does a history
-pub run-lacked : (p : Protocol) (tree : Tree) (s : State) (h : List Firing) (new : State) → IsProtocol p → IsLawful tree → IsFormed p tree s → LackedAreEmpty tree s → run p tree s h ≡ Some new → LackedAreEmpty tree new
-run-lacked p tree s [] new protocol lawful formed empty ran = let same : s ≡ new = cc in subst (LackedAreEmpty tree) same empty
-run-lacked p tree s (f ∷ h) new protocol lawful formed empty ran =
+pub run-missing : (p : Protocol) (tree : Tree) (s : State) (h : List Firing) (new : State) → IsProtocol p → IsLawful tree → IsFormed p tree s → MissingAreEmpty tree s → run p tree s h ≡ Some new → MissingAreEmpty tree new
+run-missing p tree s [] new protocol lawful formed empty ran = let same : s ≡ new = cc in subst (MissingAreEmpty tree) same empty
+run-missing p tree s (f ∷ h) new protocol lawful formed empty ran =
     let one = if_some (λ next. run p tree next h) (fire p tree s f) new ran in
     let fires : Fires p tree s f one.0 = record { leads = one.1 } in
-    run-lacked p tree one.0 h new protocol lawful (step-formed p tree s one.0 f protocol formed fires) (step-lacked p tree s one.0 f lawful formed empty fires) one.2
+    run-missing p tree one.0 h new protocol lawful (step-formed p tree s one.0 f protocol formed fires) (step-missing p tree s one.0 f lawful formed empty fires) one.2
 
 -- a list that can't have an element
 empty-unless : (xs : List Message) → (xs ≢ [] → ⊥) → xs ≡ []
@@ -200,8 +229,8 @@ first-empty p tree work line o node kind Requests lawful is lacks =
         lacks-requests kind lacks leaf)
 
 -- so all are
-pub start-lacked : (p : Protocol) (tree : Tree) (work : Work) → IsLawfulWork p tree work → LackedAreEmpty tree (start p tree work)
-start-lacked p tree work lawful l o kind lane is lacks = by_cell (cell_at (start p tree work) l o) refl
+pub start-missing : (p : Protocol) (tree : Tree) (work : Work) → IsLawfulWork p tree work → MissingAreEmpty tree (start p tree work)
+start-missing p tree work lawful l o kind lane is lacks = by_cell (cell_at (start p tree work) l o) refl
   where
     by_cell : (found : Option Cell) → cell_at (start p tree work) l o ≡ found → option_map_or (λ cell. list_of cell lane) found [] ≡ []
     by_cell None at = refl
