@@ -3,3 +3,4 @@ pub mod View
 pub mod Sends
 pub mod Locks
 pub mod OneFire
+pub mod Plans

@@ -42,7 +42,7 @@ fn has_id(message: Option<Message>, id: MsgId) -> bool
 }
 
 /// The children that the downlock awaits.
-pub(crate) fn awaited_of(local: &Local) -> KidSet
+pub fn awaited_of(local: &Local) -> KidSet
     ensures { result ≡ awaited_of local.now }
 {
     match local.down {

@@ -1,14 +1,16 @@
 //! What a rule asks of a lock, and the lock that a firing takes.
 
 ghost use Rattle.std.specs.Prelude.{◌≡◌};
+ghost use Rattle.hem_syntax.specs.declared.rule.SendTo.{SendTo};
+ghost use Rattle.hem_object.specs.Local.{Local};
+ghost use Rattle.hem_fire.specs.Sends.{message_of};
 ghost use Rattle.hem_fire.specs.Locks.{need_holds, if_request, request_in_hand, lock_by, lock_names, awaited_by, lock_taken};
 
 use crate::heads::Heads;
 use crate::lookup::is_request_id;
-use crate::sends::message_of;
 use hem_base::{KidSet, Message};
-use hem_object::{By, Local, Lock, View};
-use hem_syntax::{Hold, Origin, Protocol, SendTo, Side, Take};
+use hem_object::{By, Lock, View};
+use hem_syntax::{Hold, Origin, Protocol, Side, Take};
 
 /// Whether a lock is as the rule needs it.
 pub(crate) fn need_holds(need: Hold, lock: Option<Lock>) -> bool
@@ -37,16 +39,15 @@ fn if_request(p: &Protocol, message: Option<Message>) -> Option<Message>
 }
 
 /// The request that a lock of this firing keeps: the message taken where that is a request, else the one that the
-/// lock keeps already, and for a rule that takes nothing the message that it sends.
+/// lock keeps already, and for a rule that takes nothing the message that it sends, which is given.
 pub(crate) fn request_in_hand(
     p: &Protocol,
     take: Take,
-    send: SendTo,
-    local: &Local,
     view: &View,
     heads: &Heads,
+    message: Option<Message>,
 ) -> Option<Message>
-    ensures { result ≡ request_in_hand p.now take send local.now view.now heads.now }
+    ensures { (send : SendTo) (local : Local) → message ≡ message_of send local view.now → result ≡ request_in_hand p.now take send local view.now heads.now }
 {
     match take {
         Take::Me(_) => if_request(p, heads.request),
@@ -55,7 +56,7 @@ pub(crate) fn request_in_hand(
             None => view.kept,
         },
         Take::Kids(_) => view.kept,
-        Take::Nothing => message_of(send, local, view),
+        Take::Nothing => message,
     }
 }
 

@@ -1,11 +1,12 @@
 //! What a firing sends, and to whom.
 
-ghost use Rattle.std.specs.Prelude.{◌≡◌, ◌&&◌, ◌==◌, not, is_some, option_map};
-ghost use Rattle.hem_object.specs.Guard.{value_of};
+ghost use Rattle.std.specs.Prelude.{◌≡◌, option_map};
+ghost use Rattle.hem_object.specs.Local.{Local};
+ghost use Rattle.hem_object.specs.Targets.{targets_of};
 ghost use Rattle.hem_fire.specs.Sends.{message_of, has_parent, send_names, to_requester, goes_to};
 
 use crate::outs::To;
-use hem_base::{Kind, Message, MsgId};
+use hem_base::{KidSet, Kind, Message, MsgId};
 use hem_object::{By, Local, View};
 use hem_syntax::{Class, Protocol, SendTo};
 
@@ -36,39 +37,42 @@ fn has_parent(kind: Kind) -> bool
     !matches!(kind, Kind::Root)
 }
 
-/// Whether everything that the send names exists, and it reaches somebody.
-pub(crate) fn send_names(kind: Kind, send: SendTo, local: &Local, view: &View) -> bool
-    ensures { result ≡ send_names kind send local.now view.now }
+/// Whether everything that the send names exists, and it reaches somebody: with the message that it sends, and the
+/// children that it reaches.
+pub(crate) fn send_names(
+    kind: Kind,
+    send: SendTo,
+    view: &View,
+    message: Option<Message>,
+    targets: KidSet,
+) -> bool
+    ensures { (local : Local) → message ≡ message_of send local view.now → targets ≡ targets_of send local view.now → result ≡ send_names kind send local view.now }
 {
     match send {
         SendTo::Nothing => true,
-        SendTo::Me(_, value) => view.requester.is_some() && local.value(value, view).is_some(),
-        SendTo::Parent(_, value) => has_parent(kind) && local.value(value, view).is_some(),
-        SendTo::Kids(_, _, value) => {
-            local.value(value, view).is_some() && local.targets(&send, view).0 != 0
-        }
-        SendTo::Others(_, _, value) => {
-            view.requester.is_some()
-                && local.value(value, view).is_some()
-                && local.targets(&send, view).0 != 0
+        SendTo::Me(_, _) => view.requester.is_some() && message.is_some(),
+        SendTo::Parent(_, _) => has_parent(kind) && message.is_some(),
+        SendTo::Kids(_, _, _) => message.is_some() && targets.0 != 0,
+        SendTo::Others(_, _, _) => {
+            view.requester.is_some() && message.is_some() && targets.0 != 0
         }
     }
 }
 
 /// Where an answer to the requester goes.
-fn to_requester(me: Option<By>) -> To
-    ensures { result ≡ to_requester me }
+fn to_requester(requester: Option<By>) -> To
+    ensures { result ≡ to_requester requester }
 {
-    match me {
+    match requester {
         Some(By::Processor) => To::Answer,
         Some(By::Kid(kid)) => To::Kid(kid),
         _ => To::Nobody,
     }
 }
 
-/// Where the firing sends.
-pub(crate) fn goes_to(p: &Protocol, send: SendTo, local: &Local, view: &View) -> To
-    ensures { result ≡ goes_to p.now send local.now view.now }
+/// Where the firing sends, with the children that it reaches.
+pub(crate) fn goes_to(p: &Protocol, send: SendTo, view: &View, targets: KidSet) -> To
+    ensures { (local : Local) → targets ≡ targets_of send local view.now → result ≡ goes_to p.now send local view.now }
 {
     match send {
         SendTo::Nothing => To::Nobody,
@@ -77,7 +81,6 @@ pub(crate) fn goes_to(p: &Protocol, send: SendTo, local: &Local, view: &View) ->
             Some(Class::UpRsp) => To::UpResponse,
             _ => To::UpRequest,
         },
-        SendTo::Kids(_, _, _) => To::Kids(local.targets(&send, view)),
-        SendTo::Others(_, _, _) => To::Kids(local.targets(&send, view)),
+        SendTo::Kids(_, _, _) | SendTo::Others(_, _, _) => To::Kids(targets),
     }
 }

@@ -1,122 +1,113 @@
 -- The lists of a line after a firing.
-use Rattle.std.proofs.Common.{◌≡◌, ◌≢◌, ◌∙◌, refl, sym, ap, subst, ℕ, arith, Bool, true, false, cond, List, [], ◌∷◌, ◌++◌, drop, Some, zero-add}
-use Rattle.std.specs.Prelude.{◌==◌, ◌&&◌, IsTrue, slice_get, slice_set}
+use Rattle.std.proofs.Common.{◌≡◌, ◌≢◌, ◌∙◌, refl, sym, ap, subst, ℕ, arith, Bool, true, false, cond, List, [], ◌∷◌, ◌++◌, Some, None, zero-add}
+use Rattle.std.specs.Prelude.{◌==◌, ◌&&◌, ◌||◌, not, Option, IsTrue, is_none, is_some, slice_get, slice_set}
+use Rattle.std.proofs.lemmas.Nat.Bits.{bit_at-zero}
 use Rattle.std.specs.Option.{option_map_or}
+use Rattle.std.proofs.lemmas.List.{append-nil}
 use Rattle.hem_base.specs.Sets.{has_bit}
 use Rattle.hem_base.specs.declared.ids.Message.{Message}
+use Rattle.hem_base.specs.declared.ids.ObjectId.{ObjectId}
 use Rattle.hem_base.specs.declared.ids.Firing.{Firing}
 use Rattle.hem_object.specs.Local.{Local}
 use Rattle.hem_fire.specs.declared.outs.To.{To}
 use Rattle.hem_fire.specs.declared.outs.To.TheVariants as send
 use Rattle.hem_fire.specs.declared.outs.Outs.{Outs}
-use Rattle.hem_tree.specs.Tree.{Tree, is_child, place_among}
+use Rattle.hem_tree.specs.Tree.{Tree, is_child, place_among, IsLawful}
 use Rattle.hem_system.specs.declared.lane.Lane.{Lane}
 use Rattle.hem_system.specs.declared.lane.Lane.TheVariants.{UpRequests, UpResponses, Down, Requests, Answers}
 use Rattle.hem_system.specs.declared.cell.Cell.{Cell as Kept}
-use Rattle.hem_system.specs.State.{Cell, Line, Effect, map_each, takes, reaches, list_after, cell_after, line_after}
 use Rattle.hem_system.specs.declared.lists.Stand.{Stand}
-use Rattle.hem_system.specs.Lists.{Stands, takes_at, reaches_at, list_changed, cell_changed, lists_after, HasRoom, RoomFor}
+use Rattle.hem_system.specs.declared.lists.Stand.TheVariants.{Own, Child}
+use Rattle.hem_system.specs.State.{Cell, Line, Effect, map_each, takes, reaches, cell_after, line_after}
+use Rattle.hem_system.specs.Lists.{Stands, takes_at, reaches_at, cell_changed, changed_at, lists_after, HasRoom, sends_below, meets_below}
 use Rattle.hem_system.proofs.Takers.{and_left, and_right}
-use Rattle.std.proofs.lemmas.List.{append-nil}
+use Rattle.hem_system.proofs.Kids.{not_own_child}
 use Rattle.hem_system.proofs.Sets.{map_each-set}
 
--- two tests of which the first are the same, and the second where it passes
-and_same : (a b p q : Bool) → a ≡ b → (a ≡ true → p ≡ q) → (a && p) ≡ (b && q)
-and_same true b p q is same = rw (← is) (same refl)
-and_same false b p q is same = rw (← is) refl
+-- a number that is not another, and one that is itself
+pub not_same : (k o : ℕ) → k ≢ o → (k == o) ≡ false
+not_same k o differ = grind arith
 
--- what a firing reaches, seen from where an object stands
-reaches_at-is : (tree : Tree) (f : Firing) (to : To) (at : Stand) (lane : Lane) → Stands tree f.object.0 at → reaches_at f to at lane ≡ reaches tree f to at.object lane
-reaches_at-is tree f send.Nobody at UpRequests stands = refl
-reaches_at-is tree f send.Nobody at UpResponses stands = refl
-reaches_at-is tree f send.Nobody at Down stands = refl
-reaches_at-is tree f send.Nobody at Requests stands = refl
-reaches_at-is tree f send.Nobody at Answers stands = refl
-reaches_at-is tree f send.Answer at UpRequests stands = refl
-reaches_at-is tree f send.Answer at UpResponses stands = refl
-reaches_at-is tree f send.Answer at Down stands = refl
-reaches_at-is tree f send.Answer at Requests stands = refl
-reaches_at-is tree f send.Answer at Answers stands = refl
-reaches_at-is tree f (send.Kid c) at UpRequests stands = refl
-reaches_at-is tree f (send.Kid c) at UpResponses stands = refl
-reaches_at-is tree f (send.Kid c) at Down stands = and_same at.is_child (is_child tree at.object f.object.0) (at.place == c) (place_among tree f.object.0 at.object == c) stands.child (λ child. ap (λ (n : ℕ). n == c) (stands.place child))
-reaches_at-is tree f (send.Kid c) at Requests stands = refl
-reaches_at-is tree f (send.Kid c) at Answers stands = refl
-reaches_at-is tree f send.UpRequest at UpRequests stands = refl
-reaches_at-is tree f send.UpRequest at UpResponses stands = refl
-reaches_at-is tree f send.UpRequest at Down stands = refl
-reaches_at-is tree f send.UpRequest at Requests stands = refl
-reaches_at-is tree f send.UpRequest at Answers stands = refl
-reaches_at-is tree f send.UpResponse at UpRequests stands = refl
-reaches_at-is tree f send.UpResponse at UpResponses stands = refl
-reaches_at-is tree f send.UpResponse at Down stands = refl
-reaches_at-is tree f send.UpResponse at Requests stands = refl
-reaches_at-is tree f send.UpResponse at Answers stands = refl
-reaches_at-is tree f (send.Kids set) at UpRequests stands = refl
-reaches_at-is tree f (send.Kids set) at UpResponses stands = refl
-reaches_at-is tree f (send.Kids set) at Down stands = and_same at.is_child (is_child tree at.object f.object.0) (has_bit set.0 at.place) (has_bit set.0 (place_among tree f.object.0 at.object)) stands.child (λ child. ap (has_bit set.0) (stands.place child))
-reaches_at-is tree f (send.Kids set) at Requests stands = refl
-reaches_at-is tree f (send.Kids set) at Answers stands = refl
+pub is_same : (o : ℕ) → (o == o) ≡ true
+is_same o = grind arith
+
+-- a test with another that fails, or that passes
+and_not : (a b : Bool) → b ≡ false → false ≡ (a && b)
+and_not true b fails = sym fails
+and_not false b fails = refl
+
+not_and : (a b : Bool) → a ≡ false → false ≡ (a && b)
+not_and a b fails = rw fails refl
+
+and_yes : (a b : Bool) → b ≡ true → a ≡ (a && b)
+and_yes true b passes = sym passes
+and_yes false b passes = refl
+
+yes_and : (a b : Bool) → a ≡ true → b ≡ (a && b)
+yes_and a b passes = rw passes refl
+
+-- the object that fires is not its own child, and its child is another
+own_is : (o k : ℕ) → k ≡ o → (k == o) ≡ true
+own_is o k same = ap (λ (n : ℕ). n == o) same ∙ is_same o
+
+pub own_not_child : (tree : Tree) (o k : ℕ) → IsLawful tree → k ≡ o → is_child tree k o ≡ false
+own_not_child tree o k lawful same = ap (λ (n : ℕ). is_child tree n o) same ∙ not_own_child tree lawful o
+
+pub child_differs : (tree : Tree) (o k : ℕ) → IsLawful tree → is_child tree k o ≡ true → k ≢ o
+child_differs tree o k lawful child same = let clash : true ≡ false = sym child ∙ own_not_child tree o k lawful same in cc
+
+pub child_not_own : (tree : Tree) (o k : ℕ) → IsLawful tree → is_child tree k o ≡ true → (k == o) ≡ false
+child_not_own tree o k lawful child = not_same k o (child_differs tree o k lawful child)
 
 -- what a firing takes, seen from where an object stands
-takes_at-is : (tree : Tree) (f : Firing) (outs : Outs) (at : Stand) (lane : Lane) → Stands tree f.object.0 at → takes_at f outs at lane ≡ takes tree f outs at.object lane
-takes_at-is tree f outs at UpRequests stands = ap (λ (b : Bool). outs.taken_request && option_map_or (λ child. child.0 == at.object) f.me false && b) stands.child
-takes_at-is tree f outs at UpResponses stands = and_same at.is_child (is_child tree at.object f.object.0) (has_bit outs.taken_kids.0 at.place) (has_bit outs.taken_kids.0 (place_among tree f.object.0 at.object)) stands.child (λ child. ap (has_bit outs.taken_kids.0) (stands.place child))
-takes_at-is tree f outs at Down stands = refl
-takes_at-is tree f outs at Requests stands = refl
-takes_at-is tree f outs at Answers stands = refl
+takes_at-is : (tree : Tree) (f : Firing) (outs : Outs) (k : ℕ) (at : Stand) (lane : Lane) → IsLawful tree → Stands tree f.object.0 k at → takes_at f outs at lane ≡ takes tree f outs k lane
+takes_at-is tree f outs k Own UpRequests lawful stands = and_not _ _ (own_not_child tree f.object.0 k lawful stands)
+takes_at-is tree f outs k Own UpResponses lawful stands = not_and _ _ (own_not_child tree f.object.0 k lawful stands)
+takes_at-is tree f outs k Own Down lawful stands = and_yes _ _ (own_is f.object.0 k stands)
+takes_at-is tree f outs k Own Requests lawful stands = and_yes _ _ (own_is f.object.0 k stands)
+takes_at-is tree f outs k Own Answers lawful stands = refl
+takes_at-is tree f outs k (Child c n) UpRequests lawful stands = ap (λ (j : ℕ). outs.taken_request && option_map_or (λ child. child.0 == j) f.me false) stands.0 ∙ and_yes _ _ stands.1
+takes_at-is tree f outs k (Child c n) UpResponses lawful stands = ap (has_bit outs.taken_kids.0) (sym stands.2) ∙ yes_and _ _ stands.1
+takes_at-is tree f outs k (Child c n) Down lawful stands = and_not _ _ (child_not_own tree f.object.0 k lawful stands.1)
+takes_at-is tree f outs k (Child c n) Requests lawful stands = and_not _ _ (child_not_own tree f.object.0 k lawful stands.1)
+takes_at-is tree f outs k (Child c n) Answers lawful stands = refl
 
--- a list after a firing
-list_changed-is : (tree : Tree) (f : Firing) (outs : Outs) (at : Stand) (lane : Lane) (messages : List Message) → Stands tree f.object.0 at → list_changed f outs at lane messages ≡ list_after tree f outs at.object lane messages
-list_changed-is tree f outs at UpRequests messages stands =
-    ap (λ (b : Bool). drop (cond b 1 0) messages ++ cond (reaches_at f outs.to at UpRequests) (outs.message ∷ []) []) (takes_at-is tree f outs at UpRequests stands)
-    ∙ ap (λ (b : Bool). drop (cond (takes tree f outs at.object UpRequests) 1 0) messages ++ cond b (outs.message ∷ []) []) (reaches_at-is tree f outs.to at UpRequests stands)
-list_changed-is tree f outs at UpResponses messages stands =
-    ap (λ (b : Bool). drop (cond b 1 0) messages ++ cond (reaches_at f outs.to at UpResponses) (outs.message ∷ []) []) (takes_at-is tree f outs at UpResponses stands)
-    ∙ ap (λ (b : Bool). drop (cond (takes tree f outs at.object UpResponses) 1 0) messages ++ cond b (outs.message ∷ []) []) (reaches_at-is tree f outs.to at UpResponses stands)
-list_changed-is tree f outs at Down messages stands =
-    ap (λ (b : Bool). drop (cond b 1 0) messages ++ cond (reaches_at f outs.to at Down) (outs.message ∷ []) []) (takes_at-is tree f outs at Down stands)
-    ∙ ap (λ (b : Bool). drop (cond (takes tree f outs at.object Down) 1 0) messages ++ cond b (outs.message ∷ []) []) (reaches_at-is tree f outs.to at Down stands)
-list_changed-is tree f outs at Requests messages stands =
-    ap (λ (b : Bool). drop (cond b 1 0) messages ++ cond (reaches_at f outs.to at Requests) (outs.message ∷ []) []) (takes_at-is tree f outs at Requests stands)
-    ∙ ap (λ (b : Bool). drop (cond (takes tree f outs at.object Requests) 1 0) messages ++ cond b (outs.message ∷ []) []) (reaches_at-is tree f outs.to at Requests stands)
-list_changed-is tree f outs at Answers messages stands =
-    ap (λ (b : Bool). drop (cond b 1 0) messages ++ cond (reaches_at f outs.to at Answers) (outs.message ∷ []) []) (takes_at-is tree f outs at Answers stands)
-    ∙ ap (λ (b : Bool). drop (cond (takes tree f outs at.object Answers) 1 0) messages ++ cond b (outs.message ∷ []) []) (reaches_at-is tree f outs.to at Answers stands)
+-- what a firing reaches, seen from where an object stands
+reaches_at-is : (tree : Tree) (f : Firing) (to : To) (k : ℕ) (at : Stand) (lane : Lane) → IsLawful tree → Stands tree f.object.0 k at → reaches_at to at lane ≡ reaches tree f to k lane
+reaches_at-is tree f send.Answer k Own Answers lawful stands = sym (own_is f.object.0 k stands)
+reaches_at-is tree f send.UpRequest k Own UpRequests lawful stands = sym (own_is f.object.0 k stands)
+reaches_at-is tree f send.UpResponse k Own UpResponses lawful stands = sym (own_is f.object.0 k stands)
+reaches_at-is tree f (send.Kid c) k Own Down lawful stands = not_and _ _ (own_not_child tree f.object.0 k lawful stands)
+reaches_at-is tree f (send.Kids set) k Own Down lawful stands = not_and _ _ (own_not_child tree f.object.0 k lawful stands)
+reaches_at-is tree f send.Answer k (Child j n) Answers lawful stands = sym (child_not_own tree f.object.0 k lawful stands.1)
+reaches_at-is tree f send.UpRequest k (Child j n) UpRequests lawful stands = sym (child_not_own tree f.object.0 k lawful stands.1)
+reaches_at-is tree f send.UpResponse k (Child j n) UpResponses lawful stands = sym (child_not_own tree f.object.0 k lawful stands.1)
+reaches_at-is tree f (send.Kid c) k (Child j n) Down lawful stands = ap (λ (m : ℕ). m == c) (sym stands.2) ∙ yes_and _ _ stands.1
+reaches_at-is tree f (send.Kids set) k (Child j n) Down lawful stands = ap (has_bit set.0) (sym stands.2) ∙ yes_and _ _ stands.1
+reaches_at-is tree f _ k _ _ lawful stands = refl
 
--- objects of the same parts
-cells_alike : {l m : Local} {a1 a2 a3 a4 a5 b1 b2 b3 b4 b5 : List Message} → l ≡ m → a1 ≡ b1 → a2 ≡ b2 → a3 ≡ b3 → a4 ≡ b4 → a5 ≡ b5
-    → (let cell : Cell = record { local = l; up_requests = a1; up_responses = a2; down = a3; requests = a4; answers = a5 } in cell) ≡ record { local = m; up_requests = b1; up_responses = b2; down = b3; requests = b4; answers = b5 }
-cells_alike local up_requests up_responses down requests answers = rw (local, up_requests, up_responses, down, requests, answers) refl
+-- tests that agree on each list are the same
+same_tests : {s t : Lane → Bool} → ((lane : Lane) → s lane ≡ t lane) → s ≡ t
+same_tests same = λ i lane. same lane i
 
 -- the lists of an object after a firing
-pub cell_changed-is : (tree : Tree) (f : Firing) (outs : Outs) (at : Stand) (cell : Cell) → Stands tree f.object.0 at → cell_changed f outs at cell ≡ lists_after tree f outs at.object cell
-cell_changed-is tree f outs at cell stands =
-    cells_alike refl
-    (list_changed-is tree f outs at UpRequests cell.up_requests stands)
-    (list_changed-is tree f outs at UpResponses cell.up_responses stands)
-    (list_changed-is tree f outs at Down cell.down stands)
-    (list_changed-is tree f outs at Requests cell.requests stands)
-    (list_changed-is tree f outs at Answers cell.answers stands)
+pub changed_at-is : (tree : Tree) (f : Firing) (outs : Outs) (k : ℕ) (at : Stand) (cell : Cell) → IsLawful tree → Stands tree f.object.0 k at → changed_at f outs at cell ≡ lists_after tree f outs k cell
+changed_at-is tree f outs k at cell lawful stands =
+    λ i. cell_changed (λ lane. takes_at-is tree f outs k at lane lawful stands i) (λ lane. reaches_at-is tree f outs.to k at lane lawful stands i) outs.message cell
 
 -- room seen from where an object stands
-pub room_for : {tree : Tree} {f : Firing} {to : To} (at : Stand) (cell : Kept) → Stands tree f.object.0 at → HasRoom f to at cell → RoomFor tree f to at.object cell
-room_for {tree = tree} {f = f} {to = to} at cell stands room = record {
-  up_requests = subst (λ (b : Bool). IsTrue (cond b cell.up_requests.room true)) (reaches_at-is tree f to at UpRequests stands) room.up_requests;
-  up_responses = subst (λ (b : Bool). IsTrue (cond b cell.up_responses.room true)) (reaches_at-is tree f to at UpResponses stands) room.up_responses;
-  down = subst (λ (b : Bool). IsTrue (cond b cell.down.room true)) (reaches_at-is tree f to at Down stands) room.down;
-  requests = subst (λ (b : Bool). IsTrue (cond b cell.requests.room true)) (reaches_at-is tree f to at Requests stands) room.requests;
-  answers = subst (λ (b : Bool). IsTrue (cond b cell.answers.room true)) (reaches_at-is tree f to at Answers stands) room.answers;
-}
+pub room_for : (tree : Tree) (f : Firing) (to : To) (k : ℕ) (at : Stand) (cell : Kept) → IsLawful tree → Stands tree f.object.0 k at → HasRoom (reaches_at to at) cell → HasRoom (reaches tree f to k) cell
+room_for tree f to k at cell lawful stands room =
+    subst (λ (s : Lane → Bool). HasRoom s cell) (same_tests (λ lane. reaches_at-is tree f to k at lane lawful stands)) room
 
-pub room_at : {tree : Tree} {f : Firing} {to : To} (at : Stand) (cell : Kept) → Stands tree f.object.0 at → RoomFor tree f to at.object cell → HasRoom f to at cell
-room_at {tree = tree} {f = f} {to = to} at cell stands room = record {
-  up_requests = subst (λ (b : Bool). IsTrue (cond b cell.up_requests.room true)) (sym (reaches_at-is tree f to at UpRequests stands)) room.up_requests;
-  up_responses = subst (λ (b : Bool). IsTrue (cond b cell.up_responses.room true)) (sym (reaches_at-is tree f to at UpResponses stands)) room.up_responses;
-  down = subst (λ (b : Bool). IsTrue (cond b cell.down.room true)) (sym (reaches_at-is tree f to at Down stands)) room.down;
-  requests = subst (λ (b : Bool). IsTrue (cond b cell.requests.room true)) (sym (reaches_at-is tree f to at Requests stands)) room.requests;
-  answers = subst (λ (b : Bool). IsTrue (cond b cell.answers.room true)) (sym (reaches_at-is tree f to at Answers stands)) room.answers;
-}
+pub room_at : (tree : Tree) (f : Firing) (to : To) (k : ℕ) (at : Stand) (cell : Kept) → IsLawful tree → Stands tree f.object.0 k at → HasRoom (reaches tree f to k) cell → HasRoom (reaches_at to at) cell
+room_at tree f to k at cell lawful stands room =
+    subst (λ (s : Lane → Bool). HasRoom s cell) (same_tests (λ lane. sym (reaches_at-is tree f to k at lane lawful stands))) room
+
+-- where no list is sent to, no room is wanted
+pub no_room : (s : Lane → Bool) (cell : Kept) → ((lane : Lane) → s lane ≡ false) → HasRoom s cell
+no_room s cell none =
+    subst (λ (t : Lane → Bool). HasRoom t cell) (same_tests (λ lane. sym (none lane))) (record { up_requests = refl; up_responses = refl; down = refl; requests = refl; answers = refl })
 
 -- a test that can't pass
 is_false : (b : Bool) → (b ≡ true → false ≡ true) → b ≡ false
@@ -140,30 +131,69 @@ not_reached tree f (send.Kid c) k Down own child = is_false _ (λ passes. sym ch
 not_reached tree f (send.Kids set) k Down own child = is_false _ (λ passes. sym child ∙ and_left _ _ passes)
 not_reached tree f _ k _ own child = refl
 
-list_same : (messages : List Message) (m : Message) (taken reached : Bool) → taken ≡ false → reached ≡ false → drop (cond taken 1 0) messages ++ cond reached (m ∷ []) [] ≡ messages
-list_same messages m taken reached takes_not reaches_not = rw (takes_not, reaches_not) (append-nil messages)
+-- where a firing does not send down, no other object's lists are sent to
+pub not_reached_below : (tree : Tree) (f : Firing) (to : To) (k : ℕ) (lane : Lane) → (k == f.object.0) ≡ false → sends_below to ≡ false → reaches tree f to k lane ≡ false
+not_reached_below tree f send.Answer k Answers own none = own
+not_reached_below tree f send.UpRequest k UpRequests own none = own
+not_reached_below tree f send.UpResponse k UpResponses own none = own
+not_reached_below tree f (send.Kid c) k Down own none = cc
+not_reached_below tree f (send.Kids set) k Down own none = cc
+not_reached_below tree f _ k _ own none = refl
 
--- so its lists stay
+-- of three tests none passes
+none_of : (a b c : Bool) → (a || b || c) ≡ false → (a ≡ false) × (b ≡ false) × (c ≡ false)
+none_of true b c none = cc
+none_of false true c none = cc
+none_of false false c none = (refl, refl, none)
+
+names_none : (taken : Bool) (me : Option ObjectId) (k : ℕ) → (taken && is_some me) ≡ false → (taken && option_map_or (λ child. child.0 == k) me false) ≡ false
+names_none taken None k none = sym (and_not taken false refl)
+names_none true (Some child) k none = cc
+names_none false (Some child) k none = refl
+
+-- nobody's bit is set where all bits are 0
+no_bit : (bits i : ℕ) (b : Bool) → (bits == 0) ≡ b → not b ≡ false → has_bit bits i ≡ false
+no_bit bits i true is none = let zero : bits ≡ 0 = grind arith in rw (zero, bit_at-zero i) refl
+no_bit bits i false is none = cc
+
+-- where a firing does not meet a child, no other object's lists are taken from
+not_taken_below : (tree : Tree) (f : Firing) (outs : Outs) (k : ℕ) (lane : Lane) → (k == f.object.0) ≡ false → meets_below f outs ≡ false → takes tree f outs k lane ≡ false
+not_taken_below tree f outs k UpRequests own none = is_false _ (λ passes. sym (names_none outs.taken_request f.me k (none_of (outs.taken_request && is_some f.me) (not (outs.taken_kids.0 == 0)) (sends_below outs.to) none).0) ∙ and_left _ _ passes)
+not_taken_below tree f outs k UpResponses own none = is_false _ (λ passes. sym (no_bit outs.taken_kids.0 (place_among tree f.object.0 k) (outs.taken_kids.0 == 0) refl (none_of (outs.taken_request && is_some f.me) (not (outs.taken_kids.0 == 0)) (sends_below outs.to) none).1) ∙ and_right _ _ passes)
+not_taken_below tree f outs k Down own none = is_false _ (λ passes. sym own ∙ and_right _ _ passes)
+not_taken_below tree f outs k Requests own none = is_false _ (λ passes. sym own ∙ and_right _ _ passes)
+not_taken_below tree f outs k Answers own none = refl
+
+-- an object whose lists are neither taken from nor sent to stays
+unchanged : (m : Message) (cell : Cell) → cell_changed (λ lane. false) (λ lane. false) m cell ≡ cell
+unchanged m cell =
+    λ i. record {
+      local = cell.local;
+      up_requests = append-nil cell.up_requests i;
+      up_responses = append-nil cell.up_responses i;
+      down = append-nil cell.down i;
+      requests = append-nil cell.requests i;
+      answers = append-nil cell.answers i;
+    }
+
+stays : (takes reaches : Lane → Bool) (m : Message) (cell : Cell) → ((lane : Lane) → takes lane ≡ false) → ((lane : Lane) → reaches lane ≡ false) → cell_changed takes reaches m cell ≡ cell
+stays takes reaches m cell takes_none reaches_none = (λ i. cell_changed (λ lane. takes_none lane i) (λ lane. reaches_none lane i) m cell) ∙ unchanged m cell
+
+-- so the lists of other objects than the one that fires and its children stay
 pub lists_stay : (tree : Tree) (f : Firing) (outs : Outs) (k : ℕ) (cell : Cell) → (k == f.object.0) ≡ false → is_child tree k f.object.0 ≡ false → lists_after tree f outs k cell ≡ cell
 lists_stay tree f outs k cell own child =
-    cells_alike refl
-    (list_same cell.up_requests outs.message (takes tree f outs k UpRequests) (reaches tree f outs.to k UpRequests) (not_taken tree f outs k UpRequests own child) (not_reached tree f outs.to k UpRequests own child))
-    (list_same cell.up_responses outs.message (takes tree f outs k UpResponses) (reaches tree f outs.to k UpResponses) (not_taken tree f outs k UpResponses own child) (not_reached tree f outs.to k UpResponses own child))
-    (list_same cell.down outs.message (takes tree f outs k Down) (reaches tree f outs.to k Down) (not_taken tree f outs k Down own child) (not_reached tree f outs.to k Down own child))
-    (list_same cell.requests outs.message (takes tree f outs k Requests) (reaches tree f outs.to k Requests) (not_taken tree f outs k Requests own child) (not_reached tree f outs.to k Requests own child))
-    (list_same cell.answers outs.message (takes tree f outs k Answers) (reaches tree f outs.to k Answers) (not_taken tree f outs k Answers own child) (not_reached tree f outs.to k Answers own child))
+    stays (takes tree f outs k) (reaches tree f outs.to k) outs.message cell (λ lane. not_taken tree f outs k lane own child) (λ lane. not_reached tree f outs.to k lane own child)
 
--- a number that is not another, and one that is itself
-pub not_same : (k o : ℕ) → k ≢ o → (k == o) ≡ false
-not_same k o differ = grind arith
-
-pub is_same : (o : ℕ) → (o == o) ≡ true
-is_same o = grind arith
+-- and those of a child that the firing does not meet
+pub lists_stay_below : (tree : Tree) (f : Firing) (outs : Outs) (k : ℕ) (cell : Cell) → (k == f.object.0) ≡ false → meets_below f outs ≡ false → lists_after tree f outs k cell ≡ cell
+lists_stay_below tree f outs k cell own none =
+    stays (takes tree f outs k) (reaches tree f outs.to k) outs.message cell (λ lane. not_taken_below tree f outs k lane own none) (λ lane. not_reached_below tree f outs.to k lane own (none_of (outs.taken_request && is_some f.me) (not (outs.taken_kids.0 == 0)) (sends_below outs.to) none).2)
 
 -- the line after a firing: the object's local state is set, and then all lists change
 pub line_changed : (tree : Tree) (f : Firing) (e : Effect) (line : Line) (cell : Cell) → slice_get line f.object.0 ≡ Some cell → map_each (lists_after tree f e.outs) 0 (slice_set line f.object.0 (record cell { local = e.after })) ≡ line_after tree f e line
 line_changed tree f e line cell at =
     let o = f.object.0 in
+    let with_local = λ (k : ℕ) (z : Cell) (local : Local). record (lists_after tree f e.outs k z) { local = local } in
     map_each-set (lists_after tree f e.outs) (cell_after tree f e) 0 o line cell (record cell { local = e.after }) at
-    (rw zero-add (cells_alike (sym (ap (λ (b : Bool). cond b e.after cell.local) (is_same o))) refl refl refl refl refl))
-    (λ i z other. rw zero-add (cells_alike (sym (ap (λ (b : Bool). cond b e.after z.local) (not_same i o other))) refl refl refl refl refl))
+    (rw zero-add (ap (λ (b : Bool). with_local o cell (cond b e.after cell.local)) (sym (is_same o))))
+    (λ i z other. rw zero-add (ap (λ (b : Bool). with_local i z (cond b e.after z.local)) (sym (not_same i o other))))

@@ -62,6 +62,15 @@ later_by : {A : Type 0} (o : ℕ) (q : A → A) (y : A) (ys : List A) (found : O
 later_by o q y ys None = refl
 later_by o q y ys (Some x) = refl
 
+-- changes that agree on each element but one that is not there
+absent : {A : Type 0} (g h : ℕ → A → A) (k o : ℕ) (xs : List A) → slice_get xs o ≡ None → ((i : ℕ) (z : A) → i ≢ o → g (k + i) z ≡ h (k + i) z) → map_each g k xs ≡ map_each h k xs
+absent g h k o [] at same = refl
+absent g h k zero (x ∷ xs) at same = cc
+absent g h k (suc o) (x ∷ xs) at same =
+    let head : g k x ≡ h k x = rw add-zero at (same 0 x (omega arith)) in
+    let tail = absent g h (k + 1) o xs at (λ i z other. let e : (k + 1) + i ≡ k + suc i = omega arith in rw e (same (suc i) z (omega arith))) in
+    cc (head, tail)
+
 -- one element changed after all were, by what they become together
 pub change_one-each : {A : Type 0} (g h : ℕ → A → A) (q : A → A) (k o : ℕ) (xs : List A) → ((z : A) → q (g (k + o) z) ≡ h (k + o) z) → ((i : ℕ) (z : A) → i ≢ o → g (k + i) z ≡ h (k + i) z) → change_one o q (map_each g k xs) ≡ map_each h k xs
 change_one-each g h q k o [] here same = refl
@@ -74,3 +83,11 @@ change_one-each g h q k (suc o) (x ∷ xs) here same =
     let e : (k + 1) + o ≡ k + suc o = omega arith in
     let tail = change_one-each g h q (k + 1) o xs (λ z. rw e (here z)) (λ i z other. let e : (k + 1) + i ≡ k + suc i = omega arith in rw e (same (suc i) z (omega arith))) in
     later_by o q (g k x) (map_each g (k + 1) xs) (slice_get (map_each g (k + 1) xs) o) ∙ cc (head, tail)
+
+-- all changed after one element was, by what they become together
+pub each-change_one : {A : Type 0} (g h : ℕ → A → A) (q : A → A) (k o : ℕ) (xs : List A) → ((z : A) → g (k + o) (q z) ≡ h (k + o) z) → ((i : ℕ) (z : A) → i ≢ o → g (k + i) z ≡ h (k + i) z) → map_each g k (change_one o q xs) ≡ map_each h k xs
+each-change_one {A = A} g h q k o xs here same = by_found (slice_get xs o) refl
+  where
+    by_found : (found : Option A) → slice_get xs o ≡ found → map_each g k (option_map_or (λ x. slice_set xs o (q x)) found xs) ≡ map_each h k xs
+    by_found (Some x) at = map_each-set g h k o xs x (q x) at (here x) same
+    by_found None at = absent g h k o xs at same

@@ -18,22 +18,26 @@ use Rattle.hem_fire.specs.OneFire.{Heads, can_fire, local_after, outs_of}
 use Rattle.hem_tree.specs.Tree.{Tree, kind_of}
 use Rattle.hem_system.specs.State.{Effect, map_each, taken_heads, is_own_child, place_of_me, rule_effect, own_effect}
 use Rattle.hem_fire.specs.View.{view_of}
-use Rattle.hem_system.proofs.Made.{effect_with}
+use Rattle.hem_system.specs.Steps.{kids_taken, heads_in, heads_taken}
+
+-- an effect of its parts
+abbrev pub effect_with : Heads → Local → Outs → Effect
+effect_with heads after outs = record { after = after; took = taken_heads outs heads; outs = outs }
 
 -- the heads that a take looks at are the same
-abbrev Alike : Take → Local → Heads → Heads → Type 0
+abbrev pub Alike : Take → Local → Heads → Heads → Type 0
 Alike (take.Me id) local a b = b.request ≡ a.request
 Alike (take.Parent id) local a b = b.parent ≡ a.parent
 Alike (take.Kids id) local a b = awaited_heads local b ≡ awaited_heads local a
 Alike take.Nothing local a b = Unit {0}
 
 -- then so is what a firing does
-record Same (p : Protocol) (kind : Kind) (rule : Rule) (me : Option ℕ) (local : Local) (a b : Heads) : Type 0 where
-  can : can_fire p kind rule me local b ≡ can_fire p kind rule me local a
-  after : local_after p kind rule me local b ≡ local_after p kind rule me local a
-  outs : outs_of p kind rule me local b ≡ outs_of p kind rule me local a
+pub record Same (p : Protocol) (kind : Kind) (rule : Rule) (me : Option ℕ) (local : Local) (a b : Heads) : Type 0 where
+  pub can : can_fire p kind rule me local b ≡ can_fire p kind rule me local a
+  pub after : local_after p kind rule me local b ≡ local_after p kind rule me local a
+  pub outs : outs_of p kind rule me local b ≡ outs_of p kind rule me local a
 
-same_by : (p : Protocol) (kind : Kind) (rule : Rule) (me : Option ℕ) (local : Local) (a b : Heads) (t : Take) → rule.take ≡ t → Alike t local a b → Same p kind rule me local a b
+pub same_by : (p : Protocol) (kind : Kind) (rule : Rule) (me : Option ℕ) (local : Local) (a b : Heads) (t : Take) → rule.take ≡ t → Alike t local a b → Same p kind rule me local a b
 same_by p kind rule me local a b (take.Me id) is same = record { can = rw (is, same) refl; after = rw (is, same) refl; outs = rw (is, same) refl }
 same_by p kind rule me local a b (take.Parent id) is same = record { can = rw (is, same) refl; after = rw (is, same) refl; outs = rw (is, same) refl }
 same_by p kind rule me local a b (take.Kids id) is same = record { can = rw (is, same) refl; after = rw (is, same) refl; outs = rw (is, same) refl }
@@ -102,3 +106,28 @@ own_effect-enough p tree f local a b e is took =
     (λ rule. cond_same (is_own_child tree o f.me) (rule_effect p kind rule (place_of_me tree o f.me) local a) (rule_effect p kind rule (place_of_me tree o f.me) local b) e
     (λ one. rule_effect-enough p kind rule (place_of_me tree o f.me) local a b e one took)))
     is
+
+kept_twice : (b : Bool) (x : Option Message) → cond b (cond b x None) None ≡ cond b x None
+kept_twice true x = refl
+kept_twice false x = refl
+
+-- the heads that a set of children keeps are its heads in the whole list
+kept_heads : (set : KidSet) (k : ℕ) (xs : List (Option Message)) → filter (λ p. has_bit set.0 p.0) (enumerate_from k (map_each (λ k head. cond (has_bit set.0 k) head None) k xs)) ≡ filter (λ p. has_bit set.0 p.0) (enumerate_from k xs)
+kept_heads set k [] = refl
+kept_heads set k (x ∷ xs) =
+    one_more k (cond (has_bit set.0 k) x None) x (filter (λ p. has_bit set.0 p.0) (enumerate_from (k + 1) (map_each (λ k head. cond (has_bit set.0 k) head None) (k + 1) xs))) (filter (λ p. has_bit set.0 p.0) (enumerate_from (k + 1) xs)) (has_bit set.0 k)
+    (kept_twice (has_bit set.0 k) x) (kept_heads set (k + 1) xs)
+
+-- the heads that a rule takes are to it as all heads
+pub alike_taken : (t : Take) (local : Local) (heads : Heads) → Alike t local heads (heads_taken t local heads)
+alike_taken (take.Me id) local heads = refl
+alike_taken (take.Parent id) local heads = refl
+alike_taken (take.Kids id) local heads = kept_heads (awaited_of local) 0 heads.kids
+alike_taken take.Nothing local heads = tt
+
+-- the heads that a firing takes are those that its rule takes
+pub taken_by_rule : (p : Protocol) (kind : Kind) (rule : Rule) (me : Option ℕ) (local : Local) (heads : Heads) (t : Take) → rule.take ≡ t → taken_heads (outs_of p kind rule me local heads) heads ≡ heads_taken t local heads
+taken_by_rule p kind rule me local heads (take.Me id) is = rw is refl
+taken_by_rule p kind rule me local heads (take.Parent id) is = rw is refl
+taken_by_rule p kind rule me local heads (take.Kids id) is = rw is refl
+taken_by_rule p kind rule me local heads take.Nothing is = rw is refl

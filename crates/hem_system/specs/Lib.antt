@@ -1,4 +1,5 @@
 pub mod State
+pub mod Events
 pub mod Queues
 pub mod Cells
 pub mod Lists

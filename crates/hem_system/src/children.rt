@@ -15,6 +15,7 @@ pub(crate) fn children_of(tree: &Tree, object: ObjectId) -> &[ObjectId]
     ensures few { length result.now ≤ 8 }
     ensures lawful { IsLawful tree.now }
 {
+    // That the tree is lawful, and so that an object has at most 8 children.
     let _objects = tree.objects();
     tree.children(object)
 }

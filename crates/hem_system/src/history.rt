@@ -41,7 +41,7 @@ fn replay_from(
 {
     for (place, firing) in history.iter().enumerate() {
         match system.step(p, tree, *firing) {
-            Ok(()) => {}
+            Ok(_event) => {}
             Err(StepFault::NotEnabled) => {
                 return Err(ReplayFault::Illegal {
                     place,

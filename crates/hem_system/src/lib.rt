@@ -3,6 +3,7 @@
 
 mod cell;
 mod children;
+mod event;
 mod fault;
 mod firing;
 mod history;
@@ -15,6 +16,7 @@ mod quiet;
 mod starting;
 mod system;
 
+pub use event::Event;
 pub use fault::StepFault;
 pub use history::{ReplayFault, replay};
 pub use lane::Lane;

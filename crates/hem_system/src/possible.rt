@@ -1,20 +1,20 @@
 //! Where a firing is possible.
 
-ghost use Rattle.std.specs.Prelude.{◌≡◌, ◌<◌, ◌≤◌, length, map, is_some, option_and_then, Some, IsSome, IfSome};
+ghost use Rattle.std.specs.Prelude.{◌≡◌, ◌<◌, ◌≤◌, length, map, cond, is_some, option_and_then, Some, None, IsSome, IfSome};
 ghost use Rattle.hem_object.specs.Local.{Local};
 ghost use Rattle.hem_fire.specs.OneFire.{Heads};
-ghost use Rattle.hem_tree.specs.Tree.{children_of};
 ghost use Rattle.hem_system.specs.State.{head_at, request_head, heads_of, own_effect, rule_effect, effect_of};
 ghost use Rattle.hem_system.specs.Cells.{line_of};
-ghost use Rattle.hem_system.specs.Steps.{IsEnabled};
+ghost use Rattle.hem_system.specs.Steps.{kids_taken, heads_in, request_taken, parent_taken, heads_taken, IsEnabled};
 
 use crate::cell::Cell;
 use crate::children::{children_of, own_place};
 use crate::lane::Lane;
 use arrayvec::ArrayVec;
-use hem_base::{Firing, Kind, Message, ObjectId};
-use hem_fire::{Heads, can};
-use hem_syntax::{Protocol, Rule};
+use hem_base::{Firing, KidSet, Kind, Message, ObjectId};
+use hem_fire::{Heads, Plan, awaited_of};
+use hem_object::Local;
+use hem_syntax::{Protocol, Rule, Take};
 use hem_tree::Tree;
 
 /// The rule that a firing names, the kind of its object, and the place of the child that it names.
@@ -49,16 +49,41 @@ fn head_at(cells: &[Cell], object: ObjectId, lane: Lane) -> Option<Message>
     }
 }
 
-/// The head of each child's responses.
-fn response_heads(cells: &[Cell], children: &[ObjectId]) -> ArrayVec<Option<Message>, 8>
+/// The head of a child's responses, where that is wanted.
+fn response_head(cells: &[Cell], child: ObjectId, wanted: bool) -> Option<Message>
+    ensures { result ≡ cond wanted (head_at (line_of cells.now) child.0 Lane.UpResponses) None }
+{
+    if wanted {
+        head_at(cells, child, Lane::UpResponses)
+    } else {
+        None
+    }
+}
+
+/// The heads of the responses of the children that are in the set; `None` for every other child.
+fn response_heads(
+    cells: &[Cell],
+    children: &[ObjectId],
+    kids: KidSet,
+) -> ArrayVec<Option<Message>, 8>
     requires { length children.now ≤ 8 }
-    ensures { result.items ≡ map (λ id. head_at (line_of cells.now) id.0 Lane.UpResponses) children.now }
+    ensures { result.items ≡ heads_in kids (map (λ id. head_at (line_of cells.now) id.0 Lane.UpResponses) children.now) }
 {
     let mut heads = ArrayVec::<Option<Message>, 8>::new();
-    for child in children {
-        heads.push(head_at(cells, *child, Lane::UpResponses));
+    for (place, child) in children.iter().enumerate() {
+        heads.push(response_head(cells, *child, kids.has(place)));
     }
     heads
+}
+
+/// The children of whose responses a rule takes the head.
+fn kids_taken(take: Take, local: &Local) -> KidSet
+    ensures { result ≡ kids_taken take local.now }
+{
+    match take {
+        Take::Kids(_) => awaited_of(local),
+        Take::Me(_) | Take::Parent(_) | Take::Nothing => KidSet(0),
+    }
 }
 
 /// The head of the named child's requests, or else of the processor's.
@@ -71,29 +96,54 @@ fn request_head(cells: &[Cell], object: ObjectId, me: Option<ObjectId>) -> Optio
     }
 }
 
-/// The heads of the input lists of an object of the tree.
-pub(crate) fn heads_of(tree: &Tree, cells: &[Cell], object: ObjectId, me: Option<ObjectId>) -> Heads
-    requires { object.0 < length tree.now }
-    ensures { result ≡ heads_of tree.now (line_of cells.now) object.0 me }
+/// The head of the requester's requests, where a rule takes it.
+fn request_taken(
+    cells: &[Cell],
+    object: ObjectId,
+    me: Option<ObjectId>,
+    take: Take,
+) -> Option<Message>
+    ensures { result ≡ request_taken take (request_head (line_of cells.now) object.0 me) }
 {
-    let kids = response_heads(cells, children_of(tree, object));
+    match take {
+        Take::Me(_) => request_head(cells, object, me),
+        Take::Parent(_) | Take::Kids(_) | Take::Nothing => None,
+    }
+}
+
+/// The head of the parent's messages, where a rule takes it.
+fn parent_taken(cells: &[Cell], object: ObjectId, take: Take) -> Option<Message>
+    ensures { result ≡ parent_taken take (head_at (line_of cells.now) object.0 Lane.Down) }
+{
+    match take {
+        Take::Parent(_) => head_at(cells, object, Lane::Down),
+        Take::Me(_) | Take::Kids(_) | Take::Nothing => None,
+    }
+}
+
+/// The heads that a rule takes at an object of the tree: no other list is looked at.
+fn heads_taken(tree: &Tree, cells: &[Cell], firing: Firing, take: Take, local: &Local) -> Heads
+    requires { firing.object.0 < length tree.now }
+    ensures { result ≡ heads_taken take local.now (heads_of tree.now (line_of cells.now) firing.object.0 firing.me) }
+{
+    let object = firing.object;
+    let kids = response_heads(cells, children_of(tree, object), kids_taken(take, local));
     Heads {
-        request: request_head(cells, object, me),
-        parent: head_at(cells, object, Lane::Down),
+        request: request_taken(cells, object, firing.me, take),
+        parent: parent_taken(cells, object, take),
         kids,
     }
 }
 
-/// A firing that is possible: what it names, and the heads that it sees.
+/// A firing that is possible: the rule that it names, its plan, and the heads that it takes.
 #[derive(Drop)]
 pub(crate) struct Enabled<'p> {
-    pub(crate) kind: Kind,
     pub(crate) rule: &'p Rule,
-    pub(crate) me: Option<u8>,
-    pub(crate) heads: Heads,
+    pub(crate) plan: Plan,
+    pub(crate) took: Heads,
 }
 
-/// What a firing names and sees, where it is possible on a line.
+/// The rule, the plan and the heads of a firing, where it is possible on a line.
 pub(crate) fn enable<'p>(
     cells: &[Cell],
     p: &'p Protocol,
@@ -101,22 +151,14 @@ pub(crate) fn enable<'p>(
     firing: Firing,
 ) -> Option<Enabled<'p>>
     ensures some { is_some result ≡ is_some (effect_of p.now tree.now (line_of cells.now) firing) }
-    ensures enabled { IfSome result (λ x. IsEnabled p.now tree.now (line_of cells.now) firing x.kind x.rule.now x.me x.heads) }
+    ensures enabled { IfSome result (λ x. IsEnabled p.now tree.now (line_of cells.now) firing x.rule.now x.plan x.took) }
     ensures there { IsSome result → firing.object.0 < length tree.now }
 {
     let cell = cells.get(firing.object.0 as usize)?;
     let Chosen { kind, rule, me } = look_up(p, tree, firing)?;
-    let heads = heads_of(tree, cells, firing.object, firing.me);
-    if can(p, kind, rule, me, &cell.local, &heads) {
-        Some(Enabled {
-            kind,
-            rule,
-            me,
-            heads,
-        })
-    } else {
-        None
-    }
+    let took = heads_taken(tree, cells, firing, rule.take, &cell.local);
+    let plan = Plan::of(p, kind, rule, me, &cell.local, &took)?;
+    Some(Enabled { rule, plan, took })
 }
 
 /// Whether a firing is possible on a line.

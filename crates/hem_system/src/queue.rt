@@ -6,8 +6,8 @@ use hem_base::{Message, OutOfMemory};
 use std::alloc::Global;
 use std::marker::Model;
 
-/// A list of messages that is taken from its front, each in constant time. The first `taken` are gone; where all are,
-/// none is kept.
+/// A list of messages that is taken from its front, each in constant time. The first `taken` are gone; where all are
+/// gone none is kept.
 #[derive(Drop)]
 pub(crate) struct Queue {
     items: Vec<Message>,
@@ -15,14 +15,14 @@ pub(crate) struct Queue {
 }
 
 impl Model for Queue {
-    ghost use Rattle.std.specs.Prelude.{drop, nat_lt, ◌≤◌, length, vec_len, vec_capacity};
+    ghost use Rattle.std.specs.Prelude.{drop, nat_lt, ◌==◌, ◌||◌, IsTrue, length, vec_len, vec_capacity};
     ghost use Rattle.hem_system.specs.Queues.{Queue as Listed};
 
     ghost Value = { Listed };
 
     ghost view = { λ q. record { messages = drop q.taken q.items.items; room = nat_lt (vec_len q.items) (vec_capacity q.items) } };
 
-    ghost invariant = { λ q. q.taken ≤ length q.items.items };
+    ghost invariant = { λ q. IsTrue (q.taken == 0 || nat_lt q.taken (length q.items.items)) };
 }
 
 impl Queue {
@@ -74,7 +74,8 @@ impl Queue {
         ensures left { self.new.messages ≡ drop 1 self.old.messages }
         ensures room { self.old.room ≡ true → self.new.room ≡ true }
     {
-        if self.items.len() - self.taken > 1 {
+        let some_left = self.items.len() - self.taken > 1;
+        if some_left {
             self.taken += 1;
         } else {
             self.items.clear();

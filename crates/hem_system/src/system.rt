@@ -2,9 +2,11 @@
 
 ghost use Rattle.std.specs.Prelude.{◌≡◌, ◌<◌, length, slice_index_or, [], Some, option_map, is_some, IfOk, OnOk, OnErr, ◌↔◌, Err, None};
 ghost use Rattle.hem_system.specs.State.{start, fire, Fires, list_of, cell_at};
+ghost use Rattle.hem_system.specs.Events.{event_in};
 ghost use Rattle.hem_system.specs.Quiet.{is_quiet};
 
 use crate::cell::Cell;
+use crate::event::Event;
 use crate::fault::StepFault;
 use crate::firing::step_line;
 use crate::lane::Lane;
@@ -119,9 +121,10 @@ impl System {
         }
     }
 
-    /// Makes a firing. Where it isn't possible, or memory runs out, nothing changes.
-    pub fn step(&mut self, p: &Protocol, tree: &Tree, firing: Firing) -> Result<(), StepFault>
+    /// Makes a firing, and tells the event that was made. Where it isn't possible, or memory runs out, nothing changes.
+    pub fn step(&mut self, p: &Protocol, tree: &Tree, firing: Firing) -> Result<Event, StepFault>
         ensures ok { OnOk result (Fires p.now tree.now self.old firing self.new) }
+        ensures event { IfOk result (λ event. event_in p.now tree.now self.old firing ≡ Some event) }
         ensures refused { (result ≡ Err StepFault.NotEnabled) ↔ (fire p.now tree.now self.old firing ≡ None) }
         ensures err { OnErr result (self.new ≡ self.old) }
     {

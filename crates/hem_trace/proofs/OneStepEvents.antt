@@ -23,7 +23,8 @@ use Rattle.hem_template.specs.declared.row.Taking.TheVariants.{FromRequester}
 use Rattle.hem_fire.specs.OneFire.{Heads, can_fire, outs_of}
 use Rattle.hem_tree.specs.Tree.{Tree, kind_of, children_of, place_among}
 use Rattle.hem_system.specs.State.{State, Effect, Step, LineStep, heads_of, is_own_child, place_of_me, rule_effect, own_effect, local_at, effect_of, line_after, line_step_of, step_of, fire, run}
-use Rattle.hem_trace.specs.History.{Event, events, channels_taken}
+use Rattle.hem_system.specs.Events.{Event, event_of}
+use Rattle.hem_trace.specs.History.{events, channels_taken}
 use Rattle.hem_trace.specs.Blocks.{Each}
 use Rattle.hem_trace.specs.Order.{is_upward_template, is_upward}
 use Rattle.hem_trace.specs.OneStep.{is_answer_template, answers_at_once, is_one_step}
@@ -170,10 +171,7 @@ no_channels tree e me request parent kids =
     let none = filter-none (λ k. has_bit e.outs.taken_kids.0 (place_among tree e.firing.object.0 k)) (children_of tree e.firing.object.0) (λ k. rw kids (no_bit (place_among tree e.firing.object.0 k))) in
     rw (me, request, parent, none) refl
 
--- the event of a firing with that effect
-abbrev event_of : Firing → Effect → Event
-event_of f effect = record { firing = f; took = effect.took; outs = effect.outs }
-
+-- the event of a firing with that effect is plain
 effect-plain : (p : Protocol) (tree : Tree) (f : Firing) (local : Local) (heads : Heads) (effect : Effect) → IsTrue (is_one_step p) → own_effect p tree f local heads ≡ Some effect → IsPlain p tree (event_of f effect)
 effect-plain p tree f local heads effect leaves is =
     let by_kind = if_some _ (kind_of tree f.object.0) effect is in

@@ -7,7 +7,8 @@ use Rattle.hem_base.specs.declared.ids.Firing.{Firing}
 use Rattle.hem_syntax.specs.Protocol.{Protocol}
 use Rattle.hem_tree.specs.Tree.{Tree, level_of}
 use Rattle.hem_system.specs.State.{State, Runs}
-use Rattle.hem_trace.specs.History.{Event, events, channels_taken}
+use Rattle.hem_system.specs.Events.{Event}
+use Rattle.hem_trace.specs.History.{events, channels_taken}
 use Rattle.hem_trace.specs.Tags.{Tags, no_tags, tags_after, number_at, numbers_by_tags}
 use Rattle.hem_trace.specs.Blocks.{Block, Each}
 use Rattle.hem_trace.specs.Order.{Entry, is_upward, entries_from, entries_of, entries_in, anchor_of, is_moved, with_moved, normal, same_object, stands_before, is_before, next_out, block_of, printed_from, transactions_of, printed}

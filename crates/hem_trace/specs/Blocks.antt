@@ -4,7 +4,8 @@ use Rattle.hem_base.specs.declared.ids.Firing.{Firing}
 use Rattle.hem_syntax.specs.Protocol.{Protocol}
 use Rattle.hem_tree.specs.Tree.{Tree}
 use Rattle.hem_system.specs.State.{State, Runs}
-use Rattle.hem_trace.specs.History.{Event, events, channels_taken}
+use Rattle.hem_system.specs.Events.{Event}
+use Rattle.hem_trace.specs.History.{events, channels_taken}
 use Rattle.hem_trace.specs.Tags.{Tags, no_tags, tags_after}
 
 -- the fact holds of each element

@@ -3,19 +3,12 @@ use Rattle.std.specs.Prelude.{ℕ, ◌==◌, ◌+◌, Bool, ◌&&◌, cond, List
 use Rattle.hem_base.specs.Sets.{has_bit}
 use Rattle.hem_base.specs.declared.ids.Message.{Message}
 use Rattle.hem_base.specs.declared.ids.Firing.{Firing}
-use Rattle.hem_fire.specs.declared.outs.Outs.{Outs}
 use Rattle.hem_system.specs.declared.lane.Lane.{Lane}
 use Rattle.hem_system.specs.declared.lane.Lane.TheVariants.{UpRequests, UpResponses, Down, Requests, Answers}
 use Rattle.hem_syntax.specs.Protocol.{Protocol}
 use Rattle.hem_tree.specs.Tree.{Tree, children_of, place_among}
-use Rattle.hem_fire.specs.OneFire.{Heads}
 use Rattle.hem_system.specs.State.{State, Line, step_of, line_step_of, takes, sends, reaches}
-
--- a firing that was made, with the heads that it took, and what it took and sent
-pub record Event : Type 0 where
-  pub firing : Firing
-  pub took : Heads
-  pub outs : Outs
+use Rattle.hem_system.specs.Events.{Event, event_of}
 
 -- the events of a history from a state, as far as it is possible
 abbrev pub events : Protocol → Tree → State → List Firing → List Event
@@ -23,7 +16,7 @@ events p tree s [] = []
 events p tree s (f ∷ h) =
     elim (step_of p tree s f) [
       | None ↦ []
-      | Some step ↦ record { firing = f; took = step.effect.took; outs = step.effect.outs } ∷ events p tree step.next h
+      | Some step ↦ event_of f step.effect ∷ events p tree step.next h
     ]
 
 -- the events of firings on a line, as far as they are possible
@@ -32,7 +25,7 @@ line_events p tree line [] = []
 line_events p tree line (f ∷ h) =
     elim (line_step_of p tree line f) [
       | None ↦ []
-      | Some step ↦ record { firing = f; took = step.effect.took; outs = step.effect.outs } ∷ line_events p tree step.next h
+      | Some step ↦ event_of f step.effect ∷ line_events p tree step.next h
     ]
 
 -- a list of the state, by line, object and lane; all but the requests are channels

@@ -10,7 +10,8 @@ use Rattle.hem_syntax.specs.Protocol.{Protocol, rule_named}
 use Rattle.hem_tree.specs.Tree.{Tree, kind_of, level_of}
 use Rattle.hem_system.specs.State.{State}
 use Rattle.hem_template.specs.Template.{template_of}
-use Rattle.hem_trace.specs.History.{Event, events}
+use Rattle.hem_system.specs.Events.{Event}
+use Rattle.hem_trace.specs.History.{events}
 use Rattle.hem_trace.specs.Tags.{numbers_of}
 use Rattle.hem_trace.specs.Blocks.{Block}
 

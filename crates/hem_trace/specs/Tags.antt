@@ -1,7 +1,8 @@
 -- The number of each event's transaction: a message carries the number of the transaction of the firing that sent it.
 use Rattle.std.specs.Prelude.{ℕ, ◌+◌, cond, List, [], ◌∷◌, ◌++◌, drop, None, Some, slice_get, unwrap_or}
 use Rattle.hem_tree.specs.Tree.{Tree}
-use Rattle.hem_trace.specs.History.{Event, Channel, channels_taken, takes_from, sends_to}
+use Rattle.hem_system.specs.Events.{Event}
+use Rattle.hem_trace.specs.History.{Channel, channels_taken, takes_from, sends_to}
 
 -- of each list, the numbers that its messages carry, in order
 abbrev pub Tags : Type 0

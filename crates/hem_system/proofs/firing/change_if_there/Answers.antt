@@ -12,4 +12,4 @@ pub returns-else-object-len-clause-changed : goal.returns-else-object-len-clause
 returns-else-object-len-clause-changed c =
     let len = c.len.ensures in
     let past = c.if-object-len.false in
-    change-absent c.args.firing c.args.outs c.args.at c.args.object c.args.cells.now (omega arith)
+    change-absent c.args.firing c.args.outs.now c.args.at c.args.object c.args.cells.now (omega arith)

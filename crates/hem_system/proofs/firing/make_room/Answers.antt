@@ -1,35 +1,9 @@
-use Rattle.std.proofs.Common.{◌≡◌, ◌∙◌, subst, arith, length}
-use Rattle.hem_base.specs.declared.ids.ObjectId.{ObjectId}
-use Rattle.hem_tree.specs.Tree.{children_of}
-use Rattle.hem_system.specs.declared.lists.Stand.{Stand}
-use Rattle.hem_system.specs.Lists.{HasRoom}
-use Rattle.hem_system.proofs.OwnPlace.{child_here, child_count}
-use Rattle.hem_system.proofs.Rooms.{room_first, room_next, room_all}
+use Rattle.std.proofs.Common.{◌∙◌}
+use Rattle.hem_system.proofs.Rooms.{room_all, on_ok}
 use Rattle.hem_system.proofs.firing.make_room.Goals as goal
-
-pub loop-place-init : goal.loop-place-init
-loop-place-init c = record {
-  same = c.make_room_if_there.ensures.same;
-  room = room_first c.args.tree.now c.args.firing c.args.to c.make_room_if_there.new.cells c.children_of-children.ensures.lawful
-      (λ cell there. subst (λ (s : Stand). HasRoom c.args.firing c.args.to s cell) c.own.ensures (c.in_ok-make_room_if_there.ensures.room cell there));
-}
-
-pub loop-place-preserved : goal.loop-place-preserved
-loop-place-preserved c =
-    let ids = c.children_of-children.result.now in
-    let d : ObjectId = record { 0 = 0 } in
-    let at = child_here c.args.tree.now c.args.firing.object.0 c.loop-place.place ids d c.children_of-children.ensures.children c.loop-place-test.true in
-    record {
-      same = c.make_room_if_there-in-loop-place.ensures.same ∙ c.loop-place.invariant.same;
-      room = room_next c.args.tree.now c.args.firing c.args.to c.loop-place.place _ c.loop-place.cells c.make_room_if_there-in-loop-place.new.cells at c.make_room_if_there-in-loop-place.ensures.others
-          (λ cell there. subst (λ (s : Stand). HasRoom c.args.firing c.args.to s cell) c.child.ensures (c.in_ok-make_room_if_there-2.ensures.room cell there))
-          c.loop-place.invariant.room;
-    }
 
 pub returns-clause-room : goal.returns-clause-room
 returns-clause-room c =
-    let ids = c.children_of-children.result.now in
-    let end = c.loop-place-test.false in
-    let most = c.loop-place.auto.place-end in
-    let count : length ids ≡ length (children_of c.args.tree.now c.args.firing.object.0) = child_count c.args.tree.now c.args.firing.object.0 ids c.children_of-children.ensures.children in
-    room_all c.args.tree.now c.args.firing c.args.to c.loop-place.place c.loop-place.cells (omega arith) c.loop-place.invariant.room
+    on_ok c.make_room_if_there.result
+    (room_all c.args.tree.now c.args.firing c.args.to c.make_room_below.new.cells c.make_room_if_there.new.cells c.objects-objects.ensures.lawful c.in_ok-make_room_below.ensures.room c.make_room_if_there.ensures.others)
+    c.make_room_if_there.ensures.room

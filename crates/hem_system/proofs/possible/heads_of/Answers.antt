@@ -1,8 +1,0 @@
-use Rattle.std.proofs.Common.{◌∙◌}
-use Rattle.hem_system.proofs.Effects.{kid_heads, heads-are}
-use Rattle.hem_system.specs.Cells.{line_of}
-use Rattle.hem_system.proofs.possible.heads_of.Goals as goal
-
-pub returns : goal.returns
-returns c =
-    heads-are c.args.tree.now (line_of c.args.cells.now) c.args.object.0 c.args.me _ _ _ c.request_head.ensures c.head_at.ensures (c.response_heads-kids.ensures ∙ kid_heads (line_of c.args.cells.now) _ _ c.children_of.ensures.children)
