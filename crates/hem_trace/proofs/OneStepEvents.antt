@@ -206,7 +206,7 @@ step-effect p tree s f step is =
     same_some o x y z is one two = cc
 
 -- the first event of a history whose first firing is possible
-events-step : (p : Protocol) (tree : Tree) (s : State) (f : Firing) (h : List Firing) (step : Step) → step_of p tree s f ≡ Some step → events p tree s (f ∷ h) ≡ event_of f step.effect ∷ events p tree step.next h
+pub events-step : (p : Protocol) (tree : Tree) (s : State) (f : Firing) (h : List Firing) (step : Step) → step_of p tree s f ≡ Some step → events p tree s (f ∷ h) ≡ event_of f step.effect ∷ events p tree step.next h
 events-step p tree s f h step is = rw (is, events) refl
 
 -- the events of a run are plain, and their firings are those of the history

@@ -39,7 +39,7 @@ not_more : (k o : ℕ) → o < k → (k == o) ≡ false
 not_more k o less = not_same k o (λ same. absurd (omega arith))
 
 -- an event that takes nothing has its place as its number
-number-own : (tree : Tree) (tags : Tags) (k : ℕ) (e : Event) → channels_taken tree e ≡ [] → number_at tree tags k e ≡ k
+pub number-own : (tree : Tree) (tags : Tags) (k : ℕ) (e : Event) → channels_taken tree e ≡ [] → number_at tree tags k e ≡ k
 number-own tree tags k e none = rw (none, number_at) refl
 
 entry-own : (p : Protocol) (tree : Tree) (k n : ℕ) (e : Event) (es : List Event) (numbers : List ℕ) → n ≡ k → is_upward p tree e.firing ≡ false → entries_from p tree (k + 1) es numbers ≡ own_entries tree (k + 1) es → entries_from p tree k (e ∷ es) (n ∷ numbers) ≡ own_entries tree k (e ∷ es)

@@ -4,3 +4,4 @@ pub mod Blocks
 pub mod Order
 pub mod Singles
 pub mod OneStep
+pub mod Laws
