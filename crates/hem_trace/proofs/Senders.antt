@@ -93,7 +93,7 @@ module _ (tree : Tree) (numbers : List ℕ) (waiting : Places) (tags : Tags) (k 
         let z : (k + 1) + i ≡ k + suc i = omega arith in
         let count : count_by (takes_from tree c) (e ∷ take i es) ≡ cond (takes_from tree c e) 1 0 + count_by (takes_from tree c) (take i es) = sum_by-cons (λ x. cond (takes_from tree c x) 1 0) e (take i es) in
         let slide = slid (takes_from tree c e) (sends_to tree c e) k (waiting c) (places_from (sends_to tree c) (k + 1) es) (count_by (takes_from tree c) (take i es)) (known.fed c other) in
-        subst (IsSender numbers (k + suc i)) (slide ∙ ap (slice_get (waiting c ++ places_from (sends_to tree c) k (e ∷ es))) (sym count)) (subst (λ n. IsSender numbers n _) z (rest i d c at other first))
+        subst (IsSender numbers (k + suc i)) (slide ∙ ap (slice_get (waiting c ++ places_from (sends_to tree c) k (e ∷ es))) (sym count)) (subst (λ n. IsSender numbers n (slice_get (places_after tree waiting e k c ++ places_from (sends_to tree c) (k + 1) es) (count_by (takes_from tree c) (take i es)))) z (rest i d c at other first))
 
 -- the events of a step
 step-by : (p : Protocol) (tree : Tree) (s : State) (f : Firing) (line : Line) (effect : Effect) → slice_get s f.line.0 ≡ Some line → effect_of p tree line f ≡ Some effect → step_of p tree s f ≡ Some (record { effect = effect; next = slice_set s f.line.0 (line_after tree f effect line) })
