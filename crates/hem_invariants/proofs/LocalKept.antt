@@ -1,6 +1,6 @@
 -- A firing at one object keeps a well-formed local state, and sends what is declared.
-use Rattle.std.proofs.Common.{◌≡◌, ◌≢◌, refl, ap, sym, subst, ℕ, ◌<◌, Bool, true, false, List, length, ltb-true, Option, Some, None}
-use Rattle.std.specs.Prelude.{nat_lt, nat_le, not, ◌==◌, ◌&&◌, IsTrue, option_map, is_some, unwrap_or}
+use Rattle.std.proofs.Common.{◌≡◌, ◌≢◌, refl, ap, sym, subst, ℕ, true, length, Option, Some, None}
+use Rattle.std.specs.Prelude.{nat_le, not, ◌==◌, ◌&&◌, IsTrue, option_map, is_some, unwrap_or}
 use Rattle.std.specs.List.{list_all}
 use Rattle.hem_base.specs.declared.ids.Kind.{Kind}
 use Rattle.hem_base.specs.declared.ids.Message.{Message}
@@ -9,19 +9,18 @@ use Rattle.hem_syntax.specs.declared.rule.Rule.{Rule}
 use Rattle.hem_syntax.specs.declared.rule.SendTo.{SendTo}
 use Rattle.hem_syntax.specs.declared.rule.SendTo.TheVariants as send
 use Rattle.hem_syntax.specs.Protocol.{Protocol, part}
-use Rattle.hem_syntax.specs.Lawful.{Counts, has_take, has_atom, has_set, has_message, has_assign, has_send, set_once, is_rule, counts_of}
+use Rattle.hem_syntax.specs.Lawful.{Counts, has_take, has_atom, has_assign, has_send, set_once, is_rule, counts_of}
 use Rattle.hem_object.specs.declared.state.View.{View}
 use Rattle.hem_object.specs.Local.{Local, IsWellFormed}
 use Rattle.hem_object.specs.Guard.{holds, value_of, has_requester}
 use Rattle.hem_object.specs.Changes.{assign_names, assigned, freed}
 use Rattle.hem_object.specs.Targets.{targets_of}
 use Rattle.hem_fire.specs.declared.outs.Outs.{Outs}
-use Rattle.hem_fire.specs.declared.outs.To.TheVariants.{Nobody}
 use Rattle.hem_fire.specs.Heads.{takes_there}
 use Rattle.hem_fire.specs.View.{view_of}
-use Rattle.hem_fire.specs.Sends.{message_of, no_message, has_parent, send_names, goes_to}
+use Rattle.hem_fire.specs.Sends.{message_of, no_message, has_parent, send_names}
 use Rattle.hem_fire.specs.Locks.{need_holds, request_in_hand, lock_names}
-use Rattle.hem_fire.specs.OneFire.{Heads, me_fits, can_begin, can_fire, local_after, outs_of, OneFire}
+use Rattle.hem_fire.specs.OneFire.{Heads, me_fits, can_begin, can_fire, outs_of, OneFire}
 use Rattle.hem_invariants.specs.Declared.{IsDeclared, HeadsDeclared, SendsDeclared}
 use Rattle.hem_invariants.proofs.Choices.{both}
 use Rattle.hem_invariants.proofs.LocalSets.{assigned-kept, freed-kept}

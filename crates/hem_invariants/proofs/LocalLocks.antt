@@ -1,5 +1,5 @@
 -- The lock that a firing takes: its origin is possible, its request declared, and those whom it awaits are children.
-use Rattle.std.proofs.Common.{◌≡◌, refl, ap, subst, ℕ, ◌^◌, ◌<◌, Bool, true, false, cond, List, length, arith, ltb-true, Option, Some, None, ◌⊎◌, inl, inr}
+use Rattle.std.proofs.Common.{◌≡◌, refl, ap, subst, ℕ, ◌^◌, ◌<◌, true, false, length, arith, ltb-true, Option, Some, None, ◌⊎◌, inl, inr}
 use Rattle.std.specs.Prelude.{nat_lt, not, ◌&&◌, option_map}
 use Rattle.std.specs.Option.{option_map_or}
 use Rattle.hem_base.specs.Sets.{bits_where}
@@ -118,68 +118,68 @@ message-declared p kind (send.Kids set id v) local view m has is = of_id p id (v
 message-declared p kind (send.Others set id v) local view m has is = of_id p id (value_of v local view) m (both (has_set (counts_of p (part p kind)) set) (has_message (counts_of p (part p kind)) id) has).1 is
 
 module _ (p : Protocol) (kind : Kind) (children : ℕ) (local : Local) (formed : IsWellFormed p kind children local) where
-    -- the requester of a firing is an origin that a lock may have
-    pub requester-origin : (t : Take) (me : Option ℕ) (heads : Heads) (by : By) → me_fits kind t me (length local.dir) ≡ true → (view_of t me local heads).requester ≡ Some by → IsOrigin kind children by
-    requester-origin (take.Me id) me heads by fits is =
-        let same : requester me ≡ by = (let both_are : Some (requester me) ≡ Some by = is in cc) in
-        subst (IsOrigin kind children) same (me-origin kind id me (length local.dir) children formed.dir_count fits)
-    requester-origin (take.Parent id) me heads by fits is =
-        let it = asker-by local.up by is in
-        subst (IsOrigin kind children) it.2 ((formed.up it.0 it.1).0.origin)
-    requester-origin (take.Kids id) me heads by fits is =
-        let it = kid_asker-by local.down by is in
-        subst (IsOrigin kind children) it.2 ((formed.down it.0 it.1).origin)
-    requester-origin take.Nothing me heads by fits is = cc
+  -- the requester of a firing is an origin that a lock may have
+  pub requester-origin : (t : Take) (me : Option ℕ) (heads : Heads) (by : By) → me_fits kind t me (length local.dir) ≡ true → (view_of t me local heads).requester ≡ Some by → IsOrigin kind children by
+  requester-origin (take.Me id) me heads by fits is =
+      let same : requester me ≡ by = (let both_are : Some (requester me) ≡ Some by = is in cc) in
+      subst (IsOrigin kind children) same (me-origin kind id me (length local.dir) children formed.dir_count fits)
+  requester-origin (take.Parent id) me heads by fits is =
+      let it = asker-by local.up by is in
+      subst (IsOrigin kind children) it.2 ((formed.up it.0 it.1).0.origin)
+  requester-origin (take.Kids id) me heads by fits is =
+      let it = kid_asker-by local.down by is in
+      subst (IsOrigin kind children) it.2 ((formed.down it.0 it.1).origin)
+  requester-origin take.Nothing me heads by fits is = cc
 
-    -- the request that the uplock keeps is declared
-    kept-up : (m : Message) → request_of local.up ≡ Some m → IsDeclared p m
-    kept-up m is =
-        let it = if_mapped (λ (l : Lock). l.request) local.up m is in
-        subst (IsDeclared p) it.2 (formed.up it.0 it.1).0.declared_id
+  -- the request that the uplock keeps is declared
+  kept-up : (m : Message) → request_of local.up ≡ Some m → IsDeclared p m
+  kept-up m is =
+      let it = if_mapped (λ (l : Lock). l.request) local.up m is in
+      subst (IsDeclared p) it.2 (formed.up it.0 it.1).0.declared_id
 
-    -- and so is that of the downlock
-    kept-down : (m : Message) → request_of local.down ≡ Some m → IsDeclared p m
-    kept-down m is =
-        let it = if_mapped (λ (l : Lock). l.request) local.down m is in
-        subst (IsDeclared p) it.2 (formed.down it.0 it.1).declared_id
+  -- and so is that of the downlock
+  kept-down : (m : Message) → request_of local.down ≡ Some m → IsDeclared p m
+  kept-down m is =
+      let it = if_mapped (λ (l : Lock). l.request) local.down m is in
+      subst (IsDeclared p) it.2 (formed.down it.0 it.1).declared_id
 
-    -- the children that a firing sends to are children
-    pub targets-below : (to : SendTo) (view : View) → (targets_of to local view).0 < 2 ^ children
-    targets-below send.Nothing view = none-below children
-    targets-below (send.Me id v) view = none-below children
-    targets-below (send.Parent id v) view = none-below children
-    targets-below (send.Kids set id v) view = subst (λ n. bits_where (kid_is_in local set) (length local.dir) < 2 ^ n) formed.dir_count (bits_where-lt (kid_is_in local set) (length local.dir))
-    targets-below (send.Others set id v) view = subst (λ n. bits_where (λ k. kid_is_in local set k && not (is_requester view k)) (length local.dir) < 2 ^ n) formed.dir_count (bits_where-lt (λ k. kid_is_in local set k && not (is_requester view k)) (length local.dir))
+  -- the children that a firing sends to are children
+  pub targets-below : (to : SendTo) (view : View) → (targets_of to local view).0 < 2 ^ children
+  targets-below send.Nothing view = none-below children
+  targets-below (send.Me id v) view = none-below children
+  targets-below (send.Parent id v) view = none-below children
+  targets-below (send.Kids set id v) view = subst (λ n. bits_where (kid_is_in local set) (length local.dir) < 2 ^ n) formed.dir_count (bits_where-lt (kid_is_in local set) (length local.dir))
+  targets-below (send.Others set id v) view = subst (λ n. bits_where (λ k. kid_is_in local set k && not (is_requester view k)) (length local.dir) < 2 ^ n) formed.dir_count (bits_where-lt (λ k. kid_is_in local set k && not (is_requester view k)) (length local.dir))
 
-    -- the request that a new lock keeps is declared
-    pub request-declared : (t : Take) (to : SendTo) (me : Option ℕ) (heads : Heads) (m : Message) → HeadsDeclared p heads → has_send (counts_of p (part p kind)) to ≡ true → request_in_hand p t to local (view_of t me local heads) heads ≡ Some m → IsDeclared p m
-    request-declared (take.Me id) to me heads m declared has is = declared.request m (if_request-is p heads.request m is)
-    request-declared (take.Parent id) to me heads m declared has is = either (first_of-is (if_request p heads.parent) (request_of local.up) m is)
-      where
-        either : (if_request p heads.parent ≡ Some m) ⊎ (request_of local.up ≡ Some m) → IsDeclared p m
-        either (inl head) = declared.parent m (if_request-is p heads.parent m head)
-        either (inr kept) = kept-up m kept
-    request-declared (take.Kids id) to me heads m declared has is = kept-down m is
-    request-declared take.Nothing to me heads m declared has is = message-declared p kind to local (view_of take.Nothing me local heads) m has is
+  -- the request that a new lock keeps is declared
+  pub request-declared : (t : Take) (to : SendTo) (me : Option ℕ) (heads : Heads) (m : Message) → HeadsDeclared p heads → has_send (counts_of p (part p kind)) to ≡ true → request_in_hand p t to local (view_of t me local heads) heads ≡ Some m → IsDeclared p m
+  request-declared (take.Me id) to me heads m declared has is = declared.request m (if_request-is p heads.request m is)
+  request-declared (take.Parent id) to me heads m declared has is = either (first_of-is (if_request p heads.parent) (request_of local.up) m is)
+    where
+      either : (if_request p heads.parent ≡ Some m) ⊎ (request_of local.up ≡ Some m) → IsDeclared p m
+      either (inl head) = declared.parent m (if_request-is p heads.parent m head)
+      either (inr kept) = kept-up m kept
+  request-declared (take.Kids id) to me heads m declared has is = kept-down m is
+  request-declared take.Nothing to me heads m declared has is = message-declared p kind to local (view_of take.Nothing me local heads) m has is
 
-    -- a local state with a lock that may be held
-    locked-formed : (to : Side) (lock : Lock) (left : Local) → IsLock p kind children lock → (to ≡ side.Up → lock.awaited ≡ nobody) → IsWellFormed p kind children left → IsWellFormed p kind children (locked to lock left)
-    locked-formed side.Up lock left is none kept =
-        record { field_count = kept.field_count; dir_count = kept.dir_count; fields = kept.fields; dir = kept.dir; up = λ other same. let it : lock ≡ other = cc in subst (λ l. IsLock p kind children l × (l.awaited ≡ nobody)) it (is, none refl); down = kept.down }
-    locked-formed side.Down lock left is none kept =
-        record { field_count = kept.field_count; dir_count = kept.dir_count; fields = kept.fields; dir = kept.dir; up = kept.up; down = λ other same. let it : lock ≡ other = cc in subst (IsLock p kind children) it is }
+  -- a local state with a lock that may be held
+  locked-formed : (to : Side) (lock : Lock) (left : Local) → IsLock p kind children lock → (to ≡ side.Up → lock.awaited ≡ nobody) → IsWellFormed p kind children left → IsWellFormed p kind children (locked to lock left)
+  locked-formed side.Up lock left is none kept =
+      record { field_count = kept.field_count; dir_count = kept.dir_count; fields = kept.fields; dir = kept.dir; up = λ other same. let it : lock ≡ other = cc in subst (λ l. IsLock p kind children l × (l.awaited ≡ nobody)) it (is, none refl); down = kept.down }
+  locked-formed side.Down lock left is none kept =
+      record { field_count = kept.field_count; dir_count = kept.dir_count; fields = kept.fields; dir = kept.dir; up = kept.up; down = λ other same. let it : lock ≡ other = cc in subst (IsLock p kind children) it is }
 
-    -- so is the local state with the lock that a firing takes
-    pub lock_taken-formed : (lock : Option (Side × Origin)) (view : View) (request : Option Message) (targets : KidSet) (left : Local) → ((by : By) → view.requester ≡ Some by → IsOrigin kind children by) → ((m : Message) → request ≡ Some m → IsDeclared p m) → targets.0 < 2 ^ children → IsWellFormed p kind children left → IsWellFormed p kind children (option_map_or (λ l. locked l.0 l.1 left) (lock_taken lock view request targets) left)
-    lock_taken-formed None view request targets left origins declared below kept = kept
-    lock_taken-formed (Some lock) view None targets left origins declared below kept = kept
-    lock_taken-formed (Some lock) view (Some request) targets left origins declared below kept = held (lock_by lock.1 view) (lock_by-origin lock.1)
-      where
-        lock_by-origin : (by : Origin) (holder : By) → lock_by by view ≡ Some holder → IsOrigin kind children holder
-        lock_by-origin origin.Child holder is = origins holder is
-        lock_by-origin origin.Parent holder is = subst (IsOrigin kind children) (let same : Parent ≡ holder = cc in same) (parent-origin kind children)
-        lock_by-origin origin.Own holder is = subst (IsOrigin kind children) (let same : Own ≡ holder = cc in same) (own-origin kind children)
+  -- so is the local state with the lock that a firing takes
+  pub lock_taken-formed : (lock : Option (Side × Origin)) (view : View) (request : Option Message) (targets : KidSet) (left : Local) → ((by : By) → view.requester ≡ Some by → IsOrigin kind children by) → ((m : Message) → request ≡ Some m → IsDeclared p m) → targets.0 < 2 ^ children → IsWellFormed p kind children left → IsWellFormed p kind children (option_map_or (λ l. locked l.0 l.1 left) (lock_taken lock view request targets) left)
+  lock_taken-formed None view request targets left origins declared below kept = kept
+  lock_taken-formed (Some lock) view None targets left origins declared below kept = kept
+  lock_taken-formed (Some lock) view (Some request) targets left origins declared below kept = held (lock_by lock.1 view) (lock_by-origin lock.1)
+    where
+      lock_by-origin : (by : Origin) (holder : By) → lock_by by view ≡ Some holder → IsOrigin kind children holder
+      lock_by-origin origin.Child holder is = origins holder is
+      lock_by-origin origin.Parent holder is = subst (IsOrigin kind children) (let same : Parent ≡ holder = cc in same) (parent-origin kind children)
+      lock_by-origin origin.Own holder is = subst (IsOrigin kind children) (let same : Own ≡ holder = cc in same) (own-origin kind children)
 
-        held : (by : Option By) → ((holder : By) → by ≡ Some holder → IsOrigin kind children holder) → IsWellFormed p kind children (option_map_or (λ (l : Side × Lock). locked l.0 l.1 left) (option_map (λ by. (lock.0, record { by = by; request = request; awaited = awaited_by lock.0 targets })) by) left)
-        held None of = kept
-        held (Some by) of = locked-formed lock.0 (record { by = by; request = request; awaited = awaited_by lock.0 targets }) left (record { declared_id = declared request refl; origin = of by refl; awaited = awaited-below lock.0 children targets below }) (up-awaits-nobody lock.0 targets) kept
+      held : (by : Option By) → ((holder : By) → by ≡ Some holder → IsOrigin kind children holder) → IsWellFormed p kind children (option_map_or (λ (l : Side × Lock). locked l.0 l.1 left) (option_map (λ by. (lock.0, record { by = by; request = request; awaited = awaited_by lock.0 targets })) by) left)
+      held None of = kept
+      held (Some by) of = locked-formed lock.0 (record { by = by; request = request; awaited = awaited_by lock.0 targets }) left (record { declared_id = declared request refl; origin = of by refl; awaited = awaited-below lock.0 children targets below }) (up-awaits-nobody lock.0 targets) kept

@@ -1,6 +1,6 @@
 -- The lists that an object lacks stay empty.
 use Rattle.std.proofs.Common.{◌≡◌, ◌≢◌, refl, ap, sym, ◌∙◌, subst, ℕ, Bool, true, false, cond, List, [], ◌∷◌, ◌++◌, length, drop, Option, Some, None, ◌⊎◌, inl, inr}
-use Rattle.std.specs.Prelude.{◌==◌, ◌&&◌, slice_get, option_map, option_and_then, is_some}
+use Rattle.std.specs.Prelude.{◌==◌, option_and_then}
 use Rattle.std.specs.Option.{option_map_or}
 use Rattle.std.proofs.lemmas.Bool.{eqb-true}
 use Rattle.hem_base.specs.Sets.{has_bit}
@@ -11,7 +11,6 @@ use Rattle.hem_base.specs.declared.ids.Kind.{Kind}
 use Rattle.hem_base.specs.declared.ids.Kind.TheVariants.{Root, Mid, Leaf}
 use Rattle.hem_syntax.specs.declared.rule.Class.{Class}
 use Rattle.hem_syntax.specs.declared.rule.Class.TheVariants.{ExtReq, ExtRsp, UpReq, UpRsp, DownReq, DownRsp}
-use Rattle.hem_syntax.specs.declared.rule.Rule.{Rule}
 use Rattle.hem_syntax.specs.declared.rule.Value.{Value}
 use Rattle.hem_syntax.specs.declared.rule.SendTo.{SendTo}
 use Rattle.hem_syntax.specs.declared.rule.SendTo.TheVariants as send
@@ -20,13 +19,12 @@ use Rattle.hem_syntax.specs.Lawful.{IsProtocol}
 use Rattle.hem_object.specs.declared.state.By.{By}
 use Rattle.hem_object.specs.declared.state.By.TheVariants.{Processor, Kid, Parent, Own}
 use Rattle.hem_object.specs.declared.state.View.{View}
-use Rattle.hem_object.specs.Local.{Local, IsOrigin, IsWellFormed}
-use Rattle.hem_object.specs.Guard.{value_of}
+use Rattle.hem_object.specs.Local.{Local, IsOrigin}
 use Rattle.hem_fire.specs.declared.outs.Outs.{Outs}
 use Rattle.hem_fire.specs.declared.outs.To.{To}
 use Rattle.hem_fire.specs.declared.outs.To.TheVariants as to
 use Rattle.hem_fire.specs.View.{view_of}
-use Rattle.hem_fire.specs.Sends.{to_requester, has_parent, send_names, goes_to}
+use Rattle.hem_fire.specs.Sends.{to_requester, send_names, goes_to}
 use Rattle.hem_tree.specs.Tree.{Tree, Node, kind_of, parent_of, is_child, children_of, place_among, IsLawful}
 use Rattle.hem_work.specs.Work.{Work, requests_of}
 use Rattle.hem_work.specs.Lawful.{IsLawfulWork}
@@ -38,12 +36,12 @@ use Rattle.hem_system.proofs.Takers.{and_left, parent_is}
 use Rattle.hem_system.proofs.Own.{Came, came}
 use Rattle.hem_invariants.specs.Formed.{IsFormed}
 use Rattle.hem_invariants.specs.Missing.{has_list, MissingAreEmpty}
-use Rattle.hem_invariants.proofs.Choices.{both, if_some}
+use Rattle.hem_invariants.proofs.Choices.{if_some}
 use Rattle.hem_invariants.proofs.LocalLocks.{requester-origin}
 use Rattle.hem_invariants.proofs.LocalKept.{can_fire-parts}
 use Rattle.hem_invariants.proofs.Next.{At, at-object, list-next}
-use Rattle.hem_invariants.proofs.StatesKept.{found-formed, step-formed, run-formed}
-use Rattle.hem_invariants.proofs.Starts.{first-at, start-formed}
+use Rattle.hem_invariants.proofs.StatesKept.{found-formed, step-formed}
+use Rattle.hem_invariants.proofs.Starts.{first-at}
 
 -- an answer goes to a processor
 answered : (by : Option By) → to_requester by ≡ to.Answer → by ≡ Some Processor
@@ -142,56 +140,56 @@ never-reached tree f k Mid Answers whom answers ups child lacks reached = let it
 never-reached tree f k kind lane whom answers ups child lacks reached = let clash : true ≡ false = lacks in cc
 
 module _ (p : Protocol) (tree : Tree) (old new : State) (f : Firing) (lawful : IsLawful tree) (formed : IsFormed p tree old) (it : Came p tree old f new) where
-    -- the kind of the object that fires
-    kind-here : (at : At p tree old new f it) (k : ℕ) (kind : Kind) → (k == f.object.0) ≡ true → kind_of tree k ≡ Some kind → at.kind ≡ kind
-    kind-here at k kind same is =
-        let here : kind_of tree f.object.0 ≡ Some kind = subst (λ n. kind_of tree n ≡ Some kind) (eqb-true k f.object.0 same) is in
-        let both_are : Some at.kind ≡ Some kind = sym at.kind_is ∙ here in cc
+  -- the kind of the object that fires
+  kind-here : (at : At p tree old new f it) (k : ℕ) (kind : Kind) → (k == f.object.0) ≡ true → kind_of tree k ≡ Some kind → at.kind ≡ kind
+  kind-here at k kind same is =
+      let here : kind_of tree f.object.0 ≡ Some kind = subst (λ n. kind_of tree n ≡ Some kind) (eqb-true k f.object.0 same) is in
+      let both_are : Some at.kind ≡ Some kind = sym at.kind_is ∙ here in cc
 
-    -- an answer is sent by a leaf
-    answer-of_leaf : (at : At p tree old new f it) → it.effect.outs.to ≡ to.Answer → at.kind ≡ Leaf
-    answer-of_leaf at is =
-        let heads = heads_of tree it.line f.object.0 f.me in
-        let me = place_of_me tree f.object.0 f.me in
-        let view = view_of at.rule.take me at.local heads in
-        let can = can_fire-parts p at.kind at.rule me at.local heads at.fires.possible in
-        let goes : goes_to p at.rule.send at.local view ≡ to.Answer = sym (ap (λ (o : Outs). o.to) at.fires.gives) ∙ is in
-        processor-leaf at.kind (length (children_of tree f.object.0))
-        (requester-origin p at.kind (length (children_of tree f.object.0)) at.local (found-formed p tree old new f formed it at) at.rule.take me heads Processor can.fits (answer-asked p at.rule.send at.local view goes))
+  -- an answer is sent by a leaf
+  answer-of_leaf : (at : At p tree old new f it) → it.effect.outs.to ≡ to.Answer → at.kind ≡ Leaf
+  answer-of_leaf at is =
+      let heads = heads_of tree it.line f.object.0 f.me in
+      let me = place_of_me tree f.object.0 f.me in
+      let view = view_of at.rule.take me at.local heads in
+      let can = can_fire-parts p at.kind at.rule me at.local heads at.fires.possible in
+      let goes : goes_to p at.rule.send at.local view ≡ to.Answer = sym (ap (λ (o : Outs). o.to) at.fires.gives) ∙ is in
+      processor-leaf at.kind (length (children_of tree f.object.0))
+      (requester-origin p at.kind (length (children_of tree f.object.0)) at.local (found-formed p tree old new f formed it at) at.rule.take me heads Processor can.fits (answer-asked p at.rule.send at.local view goes))
 
-    -- a root sends nothing up
-    root-sends_not_up : (at : At p tree old new f it) → at.kind ≡ Root → (it.effect.outs.to ≡ to.UpRequest → ⊥) × (it.effect.outs.to ≡ to.UpResponse → ⊥)
-    root-sends_not_up at root =
-        let heads = heads_of tree it.line f.object.0 f.me in
-        let me = place_of_me tree f.object.0 f.me in
-        let view = view_of at.rule.take me at.local heads in
-        let can = can_fire-parts p at.kind at.rule me at.local heads at.fires.possible in
-        let never = root-not_up p at.rule.send at.local view (subst (λ k. send_names k at.rule.send at.local view ≡ true) root can.sends) in
-        let goes : goes_to p at.rule.send at.local view ≡ it.effect.outs.to = sym (ap (λ (o : Outs). o.to) at.fires.gives) in
-        ((λ is. never.0 (goes ∙ is)), (λ is. never.1 (goes ∙ is)))
+  -- a root sends nothing up
+  root-sends_not_up : (at : At p tree old new f it) → at.kind ≡ Root → (it.effect.outs.to ≡ to.UpRequest → ⊥) × (it.effect.outs.to ≡ to.UpResponse → ⊥)
+  root-sends_not_up at root =
+      let heads = heads_of tree it.line f.object.0 f.me in
+      let me = place_of_me tree f.object.0 f.me in
+      let view = view_of at.rule.take me at.local heads in
+      let can = can_fire-parts p at.kind at.rule me at.local heads at.fires.possible in
+      let never = root-not_up p at.rule.send at.local view (subst (λ k. send_names k at.rule.send at.local view ≡ true) root can.sends) in
+      let goes : goes_to p at.rule.send at.local view ≡ it.effect.outs.to = sym (ap (λ (o : Outs). o.to) at.fires.gives) in
+      ((λ is. never.0 (goes ∙ is)), (λ is. never.1 (goes ∙ is)))
 
-    -- a firing reaches no list that an object lacks
-    none-reached : (at : At p tree old new f it) (k : ℕ) (kind : Kind) (lane : Lane) → kind_of tree k ≡ Some kind → has_list kind lane ≡ false → reaches tree f it.effect.outs.to k lane ≡ true → ⊥
-    none-reached at k kind lane is lacks reached =
-        never-reached tree f k kind lane it.effect.outs.to
-        (λ answer same. sym (kind-here at k kind same is) ∙ answer-of_leaf at answer)
-        (λ root same. root-sends_not_up at (kind-here at k kind same is ∙ root))
-        (λ root child. root-no_child tree k f.object.0 lawful (is ∙ ap Some root) child)
-        lacks reached
+  -- a firing reaches no list that an object lacks
+  none-reached : (at : At p tree old new f it) (k : ℕ) (kind : Kind) (lane : Lane) → kind_of tree k ≡ Some kind → has_list kind lane ≡ false → reaches tree f it.effect.outs.to k lane ≡ true → ⊥
+  none-reached at k kind lane is lacks reached =
+      never-reached tree f k kind lane it.effect.outs.to
+      (λ answer same. sym (kind-here at k kind same is) ∙ answer-of_leaf at answer)
+      (λ root same. root-sends_not_up at (kind-here at k kind same is ∙ root))
+      (λ root child. root-no_child tree k f.object.0 lawful (is ∙ ap Some root) child)
+      lacks reached
 
-    -- so a list that an object lacks stays empty
-    list-empty : MissingAreEmpty tree old → MissingAreEmpty tree new
-    list-empty empty l k kind lane kind_is lacks = by_change (list-next p tree old new f it l k lane)
-      where
-        nothing : (t r : Bool) (m : Message) (xs : List Message) → xs ≡ [] → r ≡ false → drop (cond t 1 0) xs ++ cond r (m ∷ []) [] ≡ []
-        nothing true r m xs none not_sent = rw (none, not_sent) refl
-        nothing false r m xs none not_sent = rw (none, not_sent) refl
+  -- so a list that an object lacks stays empty
+  list-empty : MissingAreEmpty tree old → MissingAreEmpty tree new
+  list-empty empty l k kind lane kind_is lacks = by_change (list-next p tree old new f it l k lane)
+    where
+      nothing : (t r : Bool) (m : Message) (xs : List Message) → xs ≡ [] → r ≡ false → drop (cond t 1 0) xs ++ cond r (m ∷ []) [] ≡ []
+      nothing true r m xs none not_sent = rw (none, not_sent) refl
+      nothing false r m xs none not_sent = rw (none, not_sent) refl
 
-        by_change : (list_in new l k lane ≡ list_in old l k lane) ⊎ (list_in new l k lane ≡ list_after tree f it.effect.outs k lane (list_in old l k lane)) → list_in new l k lane ≡ []
-        by_change (inl same) = same ∙ empty l k kind lane kind_is lacks
-        by_change (inr next) =
-            next ∙ nothing (takes tree f it.effect.outs k lane) (reaches tree f it.effect.outs.to k lane) it.effect.outs.message (list_in old l k lane) (empty l k kind lane kind_is lacks)
-            (never-true (reaches tree f it.effect.outs.to k lane) (none-reached (at-object p tree old new f it) k kind lane kind_is lacks))
+      by_change : (list_in new l k lane ≡ list_in old l k lane) ⊎ (list_in new l k lane ≡ list_after tree f it.effect.outs k lane (list_in old l k lane)) → list_in new l k lane ≡ []
+      by_change (inl same) = same ∙ empty l k kind lane kind_is lacks
+      by_change (inr next) =
+          next ∙ nothing (takes tree f it.effect.outs k lane) (reaches tree f it.effect.outs.to k lane) it.effect.outs.message (list_in old l k lane) (empty l k kind lane kind_is lacks)
+          (never-true (reaches tree f it.effect.outs.to k lane) (none-reached (at-object p tree old new f it) k kind lane kind_is lacks))
 
 -- a firing keeps the lists empty that an object lacks
 pub step-missing : (p : Protocol) (tree : Tree) (old new : State) (f : Firing) → IsLawful tree → IsFormed p tree old → MissingAreEmpty tree old → Fires p tree old f new → MissingAreEmpty tree new
@@ -224,9 +222,9 @@ first-empty p tree work line o node kind Down lawful is lacks = refl
 first-empty p tree work line o node kind Answers lawful is lacks = refl
 first-empty p tree work line o node kind Requests lawful is lacks =
     empty-unless (requests_of work line o) (λ some.
-        let both_are : Some kind ≡ Some Leaf = sym is ∙ lawful.leaves line o some in
-        let leaf : kind ≡ Leaf = cc in
-        lacks-requests kind lacks leaf)
+    let both_are : Some kind ≡ Some Leaf = sym is ∙ lawful.leaves line o some in
+    let leaf : kind ≡ Leaf = cc in
+    lacks-requests kind lacks leaf)
 
 -- so all are
 pub start-missing : (p : Protocol) (tree : Tree) (work : Work) → IsLawfulWork p tree work → MissingAreEmpty tree (start p tree work)

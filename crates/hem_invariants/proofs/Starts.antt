@@ -1,6 +1,6 @@
 -- The state at the start is well formed.
-use Rattle.std.proofs.Common.{◌≡◌, ◌≢◌, refl, ap, sym, ◌∙◌, subst, ℕ, zero, suc, ◌+◌, ◌<◌, Bool, true, false, List, [], ◌∷◌, length, map, arith, ltb-true, Option, Some, None, zero-add}
-use Rattle.std.specs.Prelude.{nat_lt, slice_get, option_map, option_and_then, replicate, All}
+use Rattle.std.proofs.Common.{◌≡◌, refl, ap, sym, ◌∙◌, subst, ℕ, ◌+◌, true, false, List, [], ◌∷◌, length, map, ltb-true, Option, Some, None, zero-add}
+use Rattle.std.specs.Prelude.{nat_lt, slice_get, option_map, replicate, All}
 use Rattle.std.specs.List.{list_all}
 use Rattle.std.specs.Option.{option_map_or}
 use Rattle.std.proofs.lemmas.List.{length-map, length-replicate}
@@ -12,17 +12,16 @@ use Rattle.hem_base.specs.declared.ids.Kind.{Kind}
 use Rattle.hem_base.specs.declared.ids.Kind.TheVariants.{Root, Mid, Leaf}
 use Rattle.hem_syntax.specs.declared.rule.Class.{Class}
 use Rattle.hem_syntax.specs.declared.rule.Class.TheVariants.{ExtReq}
-use Rattle.hem_syntax.specs.Protocol.{Protocol, Text, KindPart, part}
-use Rattle.hem_syntax.specs.Lawful.{IsProtocol, IsPart}
-use Rattle.hem_object.specs.Local.{Local, IsStatus, IsWellFormed}
+use Rattle.hem_syntax.specs.Protocol.{Protocol, Text, part}
+use Rattle.hem_syntax.specs.Lawful.{IsProtocol}
+use Rattle.hem_object.specs.Local.{IsStatus, IsWellFormed}
 use Rattle.hem_object.specs.Start.{first_local}
 use Rattle.hem_tree.specs.Tree.{Tree, Node, below, kind_of, children_of, IsLawful}
 use Rattle.hem_work.specs.Work.{Work, requests_of}
 use Rattle.hem_work.specs.Lawful.{IsExternal, IsLawfulWork}
 use Rattle.hem_system.specs.declared.lane.Lane.{Lane}
 use Rattle.hem_system.specs.declared.lane.Lane.TheVariants.{UpRequests, UpResponses, Down, Requests, Answers}
-use Rattle.hem_system.specs.State.{State, Line, Cell, list_of, cell_at, first_cell, first_line, start}
-use Rattle.hem_system.specs.Laws.{list_in, local_in}
+use Rattle.hem_system.specs.State.{Line, Cell, list_of, cell_at, first_cell, first_line, start}
 use Rattle.hem_system.proofs.Own.{slice_get-map_each}
 use Rattle.hem_invariants.specs.Declared.{IsDeclared}
 use Rattle.hem_invariants.specs.Formed.{IsFormed}

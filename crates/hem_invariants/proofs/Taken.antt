@@ -1,6 +1,6 @@
 -- What a firing takes is there.
-use Rattle.std.proofs.Common.{◌≡◌, refl, ap, sym, ◌∙◌, subst, ℕ, zero, suc, ◌+◌, Bool, true, false, cond, List, [], ◌∷◌, map, arith, add-zero, Option, Some, None}
-use Rattle.std.specs.Prelude.{◌==◌, ◌&&◌, nat_lt, length, filter, slice_get, option_map, is_none}
+use Rattle.std.proofs.Common.{◌≡◌, refl, ap, sym, ◌∙◌, subst, ℕ, zero, suc, ◌+◌, Bool, true, false, cond, List, [], ◌∷◌, arith, add-zero, Option, Some, None}
+use Rattle.std.specs.Prelude.{◌==◌, ◌&&◌, filter, slice_get, option_map, is_none}
 use Rattle.std.specs.List.{list_all, enumerate_from}
 use Rattle.std.specs.Option.{option_map_or}
 use Rattle.std.proofs.lemmas.Bool.{eqb-true}
@@ -17,7 +17,7 @@ use Rattle.hem_syntax.specs.declared.rule.Take.TheVariants as take
 use Rattle.hem_syntax.specs.Protocol.{Protocol, rule_named}
 use Rattle.hem_object.specs.Local.{Local}
 use Rattle.hem_fire.specs.declared.outs.Outs.{Outs}
-use Rattle.hem_fire.specs.Heads.{has_id, awaited_of, awaited_heads, takes_there}
+use Rattle.hem_fire.specs.Heads.{has_id, awaited_of, takes_there}
 use Rattle.hem_fire.specs.OneFire.{Heads, can_fire, outs_of}
 use Rattle.hem_tree.specs.Tree.{Tree, kind_of, is_child, children_of, place_among}
 use Rattle.hem_system.specs.declared.lane.Lane.{Lane}

@@ -1,7 +1,6 @@
 -- The first channel that an event takes from is one from which it takes, and no processor's requests.
 use Rattle.std.proofs.Common.{◌≡◌, ◌≢◌, refl, ap, sym, ◌∙◌, subst, ℕ, Bool, true, false, cond, List, [], ◌∷◌, ◌++◌, map, Option, Some, None, ◌⊎◌, inl, inr}
-use Rattle.std.specs.Prelude.{◌==◌, ◌&&◌, length, filter, slice_get, option_to_list, All}
-use Rattle.std.specs.Option.{option_map_or}
+use Rattle.std.specs.Prelude.{length, filter, slice_get, option_to_list}
 use Rattle.std.proofs.lemmas.Bool.{eq-eqb}
 use Rattle.std.proofs.lemmas.Option.{slice_get-map}
 use Rattle.std.proofs.lemmas.List.Elements.{All-filter, filter_passes}

@@ -1,6 +1,6 @@
 -- Where only leaves have rules, and each of them answers its processor at once, an event takes nothing from a channel.
 use Rattle.std.proofs.Common.{◌≡◌, refl, ap, sym, ◌∙◌, subst, ℕ, Bool, true, false, not, ◌&&◌, cond, List, [], ◌∷◌, map, Option, Some, None, arith}
-use Rattle.std.specs.Prelude.{filter, ◌==◌, IsTrue, length, find, slice_get, slice_set, option_map, option_and_then, is_none, Result, Ok, Err, if◌then◌else◌}
+use Rattle.std.specs.Prelude.{filter, ◌==◌, IsTrue, length, find, slice_get, slice_set, is_none, Result, Ok, Err, if◌then◌else◌}
 use Rattle.hem_base.specs.Sets.{has_bit}
 use Rattle.hem_base.specs.declared.ids.RuleId.{RuleId}
 use Rattle.hem_base.specs.declared.ids.ObjectId.{ObjectId}

@@ -9,11 +9,11 @@ use Rattle.hem_system.specs.State.{State, Runs}
 use Rattle.hem_system.specs.Events.{Event}
 use Rattle.hem_trace.specs.History.{events}
 use Rattle.hem_trace.specs.Tags.{Tags, no_tags, tags_after}
-use Rattle.hem_trace.specs.Blocks.{Block, Each, AreBlocks, firings_of, IsSerial, SameFirings}
+use Rattle.hem_trace.specs.Blocks.{Each, AreBlocks, firings_of, IsSerial, SameFirings}
 use Rattle.hem_trace.specs.Order.{entries_of, printed}
 use Rattle.hem_trace.specs.Singles.{singles}
 use Rattle.hem_trace.specs.OneStep.{is_one_step}
-use Rattle.hem_trace.proofs.OneStepEvents.{IsPlain, ArePlain, run-plain}
+use Rattle.hem_trace.proofs.OneStepEvents.{IsPlain, run-plain}
 use Rattle.hem_trace.proofs.OneStepOrder.{one_step-printed}
 
 -- the firings of blocks of one firing each

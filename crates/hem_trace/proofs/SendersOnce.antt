@@ -1,8 +1,8 @@
 -- The state at the start has no message in a channel, and there is one list of numbers by senders.
-use Rattle.std.proofs.Common.{◌≡◌, ◌≢◌, refl, ap, sym, ◌∙◌, subst, ℕ, zero, suc, ◌+◌, ◌<◌, ◌≤◌, List, [], ◌∷◌, length, arith, Option, Some, None, ◌⊎◌, inl, inr}
+use Rattle.std.proofs.Common.{◌≡◌, ◌≢◌, refl, ap, sym, ◌∙◌, subst, ℕ, zero, suc, ◌<◌, ◌≤◌, List, [], ◌∷◌, length, arith, Option, Some, None}
 use Rattle.std.specs.Prelude.{slice_get}
 use Rattle.std.specs.Option.{option_map_or}
-use Rattle.std.proofs.lemmas.Option.{slice_get_past, slice_get_within, slice_get-get_or}
+use Rattle.std.proofs.lemmas.Option.{slice_get_past}
 use Rattle.hem_syntax.specs.Protocol.{Protocol}
 use Rattle.hem_tree.specs.Tree.{Tree, Node}
 use Rattle.hem_work.specs.Work.{Work, requests_of}
@@ -49,33 +49,33 @@ past-end (e ∷ es) zero none = cc
 past-end (e ∷ es) (suc i) none = omega (arith, past-end es i none)
 
 module _ (tree : Tree) (es : List Event) (one other : List ℕ) (is : AreNumbersBySenders tree es one) (also : AreNumbersBySenders tree es other) where
-    -- the number of an event, where those before have one number
-    same-at : (i : ℕ) (e : Event) → slice_get es i ≡ Some e → ((j : ℕ) → j < i → slice_get one j ≡ slice_get other j) → slice_get one i ≡ slice_get other i
-    same-at i e at before = by_first (channels_taken tree e) refl
-      where
-        by_first : (cs : List Channel) → channels_taken tree e ≡ cs → slice_get one i ≡ slice_get other i
-        by_first [] none = is.own i e at none ∙ sym (also.own i e at none)
-        by_first (c ∷ cs) some =
-            let a = is.sent i e c at (ap (λ (xs : List Channel). slice_get xs 0) some) in
-            let b = also.sent i e c at (ap (λ (xs : List Channel). slice_get xs 0) some) in
-            let same : a.0 ≡ b.0 = (let both_are : Some a.0 ≡ Some b.0 = sym a.1 ∙ b.1 in cc) in
-            a.3 ∙ before a.0 a.2 ∙ ap (slice_get other) same ∙ sym b.3
+  -- the number of an event, where those before have one number
+  same-at : (i : ℕ) (e : Event) → slice_get es i ≡ Some e → ((j : ℕ) → j < i → slice_get one j ≡ slice_get other j) → slice_get one i ≡ slice_get other i
+  same-at i e at before = by_first (channels_taken tree e) refl
+    where
+      by_first : (cs : List Channel) → channels_taken tree e ≡ cs → slice_get one i ≡ slice_get other i
+      by_first [] none = is.own i e at none ∙ sym (also.own i e at none)
+      by_first (c ∷ cs) some =
+          let a = is.sent i e c at (ap (λ (xs : List Channel). slice_get xs 0) some) in
+          let b = also.sent i e c at (ap (λ (xs : List Channel). slice_get xs 0) some) in
+          let same : a.0 ≡ b.0 = (let both_are : Some a.0 ≡ Some b.0 = sym a.1 ∙ b.1 in cc) in
+          a.3 ∙ before a.0 a.2 ∙ ap (slice_get other) same ∙ sym b.3
 
-    -- past the end there is none
-    same-here : (i : ℕ) → ((j : ℕ) → j < i → slice_get one j ≡ slice_get other j) → slice_get one i ≡ slice_get other i
-    same-here i before = by_event (slice_get es i) refl
-      where
-        by_event : (found : Option Event) → slice_get es i ≡ found → slice_get one i ≡ slice_get other i
-        by_event (Some e) at = same-at i e at before
-        by_event None at =
-            let past = past-end es i at in
-            slice_get_past one i (omega (arith, past, is.one_each)) ∙ sym (slice_get_past other i (omega (arith, past, also.one_each)))
+  -- past the end there is none
+  same-here : (i : ℕ) → ((j : ℕ) → j < i → slice_get one j ≡ slice_get other j) → slice_get one i ≡ slice_get other i
+  same-here i before = by_event (slice_get es i) refl
+    where
+      by_event : (found : Option Event) → slice_get es i ≡ found → slice_get one i ≡ slice_get other i
+      by_event (Some e) at = same-at i e at before
+      by_event None at =
+          let past = past-end es i at in
+          slice_get_past one i (omega (arith, past, is.one_each)) ∙ sym (slice_get_past other i (omega (arith, past, also.one_each)))
 
-    -- by those before, up to each place
-    same-below : (n j : ℕ) → j < n → slice_get one j ≡ slice_get other j
-    same-below zero j less = absurd (omega arith)
-    same-below (suc n) j less = same-here j (λ m before. same-below n m (omega arith))
+  -- by those before, up to each place
+  same-below : (n j : ℕ) → j < n → slice_get one j ≡ slice_get other j
+  same-below zero j less = absurd (omega arith)
+  same-below (suc n) j less = same-here j (λ m before. same-below n m (omega arith))
 
-    -- so there is one list of numbers by senders
-    pub numbers-once : one ≡ other
-    numbers-once = same-lists one other (λ i. same-below (suc i) i (omega arith))
+  -- so there is one list of numbers by senders
+  pub numbers-once : one ≡ other
+  numbers-once = same-lists one other (λ i. same-below (suc i) i (omega arith))
