@@ -18,12 +18,12 @@ use Rattle.hem_system.proofs.Changed.{not_same, is_same}
 use Rattle.hem_system.proofs.Stepped.{fire_by}
 
 -- a firing that was made, by the line on which it came
-record Came (p : Protocol) (tree : Tree) (old : State) (f : Firing) (new : State) : Type 0 where
-  line : Line
-  effect : Effect
-  there : slice_get old f.line.0 ≡ Some line
-  possible : effect_of p tree line f ≡ Some effect
-  after : new ≡ slice_set old f.line.0 (line_after tree f effect line)
+pub record Came (p : Protocol) (tree : Tree) (old : State) (f : Firing) (new : State) : Type 0 where
+  pub line : Line
+  pub effect : Effect
+  pub there : slice_get old f.line.0 ≡ Some line
+  pub possible : effect_of p tree line f ≡ Some effect
+  pub after : new ≡ slice_set old f.line.0 (line_after tree f effect line)
 
 came_by : (p : Protocol) (tree : Tree) (old : State) (f : Firing) (new : State) (line : Line) (effect : Option Effect) → slice_get old f.line.0 ≡ Some line → effect_of p tree line f ≡ effect → fire p tree old f ≡ Some new → Came p tree old f new
 came_by p tree old f new line None at is leads = let none = fire_by p tree old f line None at is in cc
@@ -36,20 +36,20 @@ came_on : (p : Protocol) (tree : Tree) (old : State) (f : Firing) (new : State) 
 came_on p tree old f new None at leads = let none : fire p tree old f ≡ None = rw at refl in cc
 came_on p tree old f new (Some line) at leads = came_by p tree old f new line (effect_of p tree line f) at refl leads
 
-came : {p : Protocol} {tree : Tree} {old new : State} {f : Firing} → Fires p tree old f new → Came p tree old f new
+pub came : {p : Protocol} {tree : Tree} {old new : State} {f : Firing} → Fires p tree old f new → Came p tree old f new
 came {p = p} {tree = tree} {old = old} {new = new} {f = f} fires = came_on p tree old f new (slice_get old f.line.0) refl fires.leads
 
 -- an element after a change of each
-slice_get-map_each : {A B : Type 0} (g : ℕ → A → B) (k : ℕ) (xs : List A) (i : ℕ) → slice_get (map_each g k xs) i ≡ option_map (g (k + i)) (slice_get xs i)
+pub slice_get-map_each : {A B : Type 0} (g : ℕ → A → B) (k : ℕ) (xs : List A) (i : ℕ) → slice_get (map_each g k xs) i ≡ option_map (g (k + i)) (slice_get xs i)
 slice_get-map_each g k [] i = refl
 slice_get-map_each g k (x ∷ xs) zero = rw add-zero refl
 slice_get-map_each g k (x ∷ xs) (suc i) = let e : (k + 1) + i ≡ k + suc i = omega arith in rw (slice_get-map_each g (k + 1) xs i, e) refl
 
 -- an object on the line of the firing, before and after
-cell_before : {p : Protocol} {tree : Tree} {old new : State} {f : Firing} (it : Came p tree old f new) (k : ℕ) → cell_at old f.line.0 k ≡ slice_get it.line k
+pub cell_before : {p : Protocol} {tree : Tree} {old new : State} {f : Firing} (it : Came p tree old f new) (k : ℕ) → cell_at old f.line.0 k ≡ slice_get it.line k
 cell_before it k = rw it.there refl
 
-cell_now : {p : Protocol} {tree : Tree} {old new : State} {f : Firing} (it : Came p tree old f new) (k : ℕ) → cell_at new f.line.0 k ≡ option_map (cell_after tree f it.effect k) (slice_get it.line k)
+pub cell_now : {p : Protocol} {tree : Tree} {old new : State} {f : Firing} (it : Came p tree old f new) (k : ℕ) → cell_at new f.line.0 k ≡ option_map (cell_after tree f it.effect k) (slice_get it.line k)
 cell_now {tree = tree} {old = old} {new = new} {f = f} it k =
     let next = line_after tree f it.effect it.line in
     let here : slice_get new f.line.0 ≡ Some next = ap (λ (s : State). slice_get s f.line.0) it.after ∙ get_set_here old f.line.0 next (slice_get_within old f.line.0 it.line it.there) in
@@ -71,7 +71,7 @@ effect_there p tree line f e None is effect = let none : effect_of p tree line f
 effect_there p tree line f e (Some l) is effect = (l, is)
 
 -- a list of an object after the firing
-list_of-after : (tree : Tree) (f : Firing) (e : Effect) (k : ℕ) (cell : Cell) (lane : Lane) → list_of (cell_after tree f e k cell) lane ≡ list_after tree f e.outs k lane (list_of cell lane)
+pub list_of-after : (tree : Tree) (f : Firing) (e : Effect) (k : ℕ) (cell : Cell) (lane : Lane) → list_of (cell_after tree f e k cell) lane ≡ list_after tree f e.outs k lane (list_of cell lane)
 list_of-after tree f e k cell UpRequests = refl
 list_of-after tree f e k cell UpResponses = refl
 list_of-after tree f e k cell Down = refl

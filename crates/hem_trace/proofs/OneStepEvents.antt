@@ -1,6 +1,6 @@
 -- Where only leaves have rules, and each of them answers its processor at once, an event takes nothing from a channel.
 use Rattle.std.proofs.Common.{◌≡◌, refl, ap, sym, ◌∙◌, subst, ℕ, Bool, true, false, not, ◌&&◌, cond, List, [], ◌∷◌, map, Option, Some, None, arith}
-use Rattle.std.specs.Prelude.{filter, ◌==◌, IsTrue, length, find, slice_get, slice_set, option_map, option_and_then, is_none, Result, Ok, Err, if◌then◌else◌}
+use Rattle.std.specs.Prelude.{filter, ◌==◌, IsTrue, length, find, slice_get, slice_set, is_none, Result, Ok, Err, if◌then◌else◌}
 use Rattle.hem_base.specs.Sets.{has_bit}
 use Rattle.hem_base.specs.declared.ids.RuleId.{RuleId}
 use Rattle.hem_base.specs.declared.ids.ObjectId.{ObjectId}
@@ -29,41 +29,24 @@ use Rattle.hem_trace.specs.Blocks.{Each}
 use Rattle.hem_trace.specs.Order.{is_upward}
 use Rattle.hem_template.specs.Waiting.{is_upward_template}
 use Rattle.hem_trace.specs.OneStep.{is_answer_template, answers_at_once, is_one_step}
+use Rattle.hem_invariants.proofs.Choices.{if_some, if_mapped, if_passed, found-all}
 
 -- an event that takes nothing from a channel, of a firing that the normal form never moves
 pub record IsPlain (p : Protocol) (tree : Tree) (e : Event) : Type 0 where
   pub alone : channels_taken tree e ≡ []
   pub stays : is_upward p tree e.firing ≡ false
 
-if_some : {A B : Type 0} (f : A → Option B) (o : Option A) (y : B) → option_and_then f o ≡ Some y → (x : A) × (o ≡ Some x) × (f x ≡ Some y)
-if_some f None y is = cc
-if_some f (Some x) y is = (x, refl, is)
-
-if_mapped : {A B : Type 0} (f : A → B) (o : Option A) (y : B) → option_map f o ≡ Some y → (x : A) × (o ≡ Some x) × (f x ≡ y)
-if_mapped f None y is = cc
-if_mapped f (Some x) y is = (x, refl, (let e : f x ≡ y = cc in e))
-
-if_passed : {A : Type 0} (b : Bool) (x : Option A) (y : A) → cond b x None ≡ Some y → (b ≡ true) × (x ≡ Some y)
-if_passed true x y is = (refl, is)
-if_passed false x y is = cc
-
+-- of two tests that hold, the first does
 left-true : (a b : Bool) → IsTrue (a && b) → IsTrue a
 left-true true b is = refl
 left-true false b is = cc
 
+-- and the second
 right-true : (a b : Bool) → IsTrue (a && b) → IsTrue b
 right-true true b is = is
 right-true false b is = cc
 
--- what is found is one of the list, and passes the test
-found-all : {A : Type 0} (each test : A → Bool) (xs : List A) (x : A) → IsTrue (list_all each xs) → find test xs ≡ Some x → IsTrue (each x)
-found-all each test [] x all is = cc
-found-all {A = A} each test (y ∷ xs) x all is = by_test (test y) is (left-true (each y) (list_all each xs) all) (found-all each test xs x (right-true (each y) (list_all each xs) all))
-  where
-    by_test : (b : Bool) → cond b (Some y) (find test xs) ≡ Some x → IsTrue (each y) → (find test xs ≡ Some x → IsTrue (each x)) → IsTrue (each x)
-    by_test true is head rest = let same : y ≡ x = cc in rw (← same) head
-    by_test false is head rest = rest is
-
+-- what is found passes the test
 found-passes : {A : Type 0} (test : A → Bool) (xs : List A) (x : A) → find test xs ≡ Some x → IsTrue (test x)
 found-passes test [] x is = cc
 found-passes {A = A} test (y ∷ xs) x is = by_test (test y) refl is (found-passes test xs x)
@@ -72,14 +55,17 @@ found-passes {A = A} test (y ∷ xs) x is = by_test (test y) refl is (found-pass
     by_test true passes is rest = let same : y ≡ x = cc in rw (← same) passes
     by_test false passes is rest = rest is
 
+-- a test that nothing passes keeps nothing
 filter-none : {A : Type 0} (test : A → Bool) (xs : List A) → ((x : A) → test x ≡ false) → filter test xs ≡ []
 filter-none test [] none = refl
 filter-none test (x ∷ xs) none = rw (none x) (filter-none test xs none)
 
+-- a test that can't pass
 not_true : (b : Bool) → (b ≡ true → ⊥) → b ≡ false
 not_true true is = absurd (is refl)
 not_true false is = refl
 
+-- nobody has no bit
 no_bit : (j : ℕ) → has_bit 0 j ≡ false
 no_bit j = not_true (has_bit 0 j) (λ has. grind arith)
 
@@ -88,6 +74,7 @@ unless-failed : (b : Bool) (c : Clause) (r : Result TemplateName Clause) (t : Te
 unless-failed true c r t is = is
 unless-failed false c r t is = cc
 
+-- the template whose rules answer at once
 answer-template : (r : Result TemplateName Clause) → IsTrue (is_answer_template r) → r ≡ Ok ImmDown
 answer-template (Ok ImmDown) is = refl
 answer-template _ is = cc
@@ -101,6 +88,7 @@ fitted-same p kind rule t name is =
     let fits = unless-failed (names_fit p kind rule (row_of t)) clause.Names (Ok t) name reads in
     cc
 
+-- a template that was found is the shape's
 by-shape : (p : Protocol) (kind : Kind) (rule : Rule) (name : TemplateName) (shape : Option TemplateName) → (elim shape as (λ x. Result TemplateName Clause) [ None ↦ Err clause.Shape | Some t ↦ fitted p kind rule t ]) ≡ Ok name → shape ≡ Some name
 by-shape p kind rule name None is = cc
 by-shape p kind rule name (Some t) is = ap (λ x. Some x) (fitted-same p kind rule t name is)
@@ -112,10 +100,12 @@ template-shape p kind rule name is =
     let class = unless-failed (class_fits p kind rule) clause.Class _ name level in
     by-shape p kind rule name (shape_of p rule) class
 
+-- what is taken from the requester
 takes-me : (p : Protocol) (what : Take) → IsTrue (is_taking p what FromRequester) → (id : MsgId) × (what ≡ take.Me id)
 takes-me p (take.Me id) is = (id, refl)
 takes-me p _ is = cc
 
+-- of four tests that hold, the first does
 first-of_four : (a b c d : Bool) → IsTrue (a && b && c && d) → IsTrue a
 first-of_four true b c d is = refl
 first-of_four false b c d is = cc
@@ -132,19 +122,24 @@ answer-still : (p : Protocol) (kind : Kind) (rule : Rule) → kind ≡ Leaf → 
 answer-still p Leaf rule is answers = ap is_upward_template (answer-template (template_of p Leaf rule) answers)
 answer-still p _ rule is answers = cc
 
+-- a list of no element
 none-long : {A : Type 0} (xs : List A) → IsTrue (length xs == 0) → xs ≡ []
 none-long [] is = refl
 none-long (x ∷ xs) is = absurd (grind arith)
 
+-- neither the root nor a mid has rules
 above-empty : (p : Protocol) → IsTrue (is_one_step p) → IsTrue (length p.root.rules == 0 && length p.mid.rules == 0)
 above-empty p one = left-true (length p.root.rules == 0 && length p.mid.rules == 0) (list_all (answers_at_once p) p.leaf.rules) one
 
+-- not the root
 root-empty : (p : Protocol) → IsTrue (is_one_step p) → p.root.rules ≡ []
 root-empty p one = none-long p.root.rules (left-true (length p.root.rules == 0) (length p.mid.rules == 0) (above-empty p one))
 
+-- not a mid
 mid-empty : (p : Protocol) → IsTrue (is_one_step p) → p.mid.rules ≡ []
 mid-empty p one = none-long p.mid.rules (right-true (length p.root.rules == 0) (length p.mid.rules == 0) (above-empty p one))
 
+-- each rule of a leaf answers at once
 leaves-answer : (p : Protocol) → IsTrue (is_one_step p) → IsTrue (list_all (answers_at_once p) p.leaf.rules)
 leaves-answer p one = right-true (length p.root.rules == 0 && length p.mid.rules == 0) (list_all (answers_at_once p) p.leaf.rules) one
 
@@ -154,10 +149,12 @@ named-one p Root name rule one is = let none : None ≡ Some rule = rw (root-emp
 named-one p Mid name rule one is = let none : None ≡ Some rule = rw (mid-empty p one) at is in cc
 named-one p Leaf name rule one is = (refl, found-all (answers_at_once p) _ p.leaf.rules rule (leaves-answer p one) is)
 
+-- of eight tests that hold, the first does
 first-of_eight : (a b c d e f g h : Bool) → (a && b && c && d && e && f && g && h) ≡ true → a ≡ true
 first-of_eight true b c d e f g h is = refl
 first-of_eight false b c d e f g h is = cc
 
+-- where no place is named, no child is
 no_place : (tree : Tree) (o : ℕ) (me : Option ObjectId) → is_none (place_of_me tree o me) ≡ true → me ≡ None
 no_place tree o None is = refl
 no_place tree o (Some child) is = cc
@@ -173,6 +170,7 @@ no_channels tree e me request parent kids =
     rw (me, request, parent, none) refl
 
 -- the event of a firing with that effect is plain
+-- the event of an effect is plain
 effect-plain : (p : Protocol) (tree : Tree) (f : Firing) (local : Local) (heads : Heads) (effect : Effect) → IsTrue (is_one_step p) → own_effect p tree f local heads ≡ Some effect → IsPlain p tree (event_of f effect)
 effect-plain p tree f local heads effect leaves is =
     let by_kind = if_some _ (kind_of tree f.object.0) effect is in
@@ -207,7 +205,7 @@ step-effect p tree s f step is =
     same_some o x y z is one two = cc
 
 -- the first event of a history whose first firing is possible
-events-step : (p : Protocol) (tree : Tree) (s : State) (f : Firing) (h : List Firing) (step : Step) → step_of p tree s f ≡ Some step → events p tree s (f ∷ h) ≡ event_of f step.effect ∷ events p tree step.next h
+pub events-step : (p : Protocol) (tree : Tree) (s : State) (f : Firing) (h : List Firing) (step : Step) → step_of p tree s f ≡ Some step → events p tree s (f ∷ h) ≡ event_of f step.effect ∷ events p tree step.next h
 events-step p tree s f h step is = rw (is, events) refl
 
 -- the events of a run are plain, and their firings are those of the history
@@ -215,6 +213,7 @@ pub record ArePlain (p : Protocol) (tree : Tree) (h : List Firing) (es : List Ev
   pub plain : Each (IsPlain p tree) es
   pub firings : map (λ e. e.firing) es ≡ h
 
+-- so are those of a run
 pub run-plain : (p : Protocol) (tree : Tree) (s : State) (h : List Firing) (new : State) → IsTrue (is_one_step p) → run p tree s h ≡ Some new → ArePlain p tree h (events p tree s h)
 run-plain p tree s [] new leaves is = record { plain = tt; firings = refl }
 run-plain p tree s (f ∷ h) new leaves is =

@@ -5,3 +5,4 @@ pub mod Order
 pub mod Singles
 pub mod OneStep
 pub mod Templates
+pub mod Laws

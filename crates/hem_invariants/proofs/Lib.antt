@@ -1,0 +1,9 @@
+pub mod Choices
+pub mod LocalSets
+pub mod LocalLocks
+pub mod LocalKept
+pub mod Next
+pub mod StatesKept
+pub mod Starts
+pub mod Missing
+pub mod Taken
