@@ -36,4 +36,3 @@ KnowsTargets view targets sets dir = list_any is_targets sets ≡ true → AreAw
 pub record StillStands (u : Rule) (before after : Local) : Type 0 where
   pub guard : guard_at u.guard (abstract_of after) None ≡ true
   pub value : sends_val u ≡ true → after.val ≡ before.val
-

@@ -19,25 +19,8 @@ use Rattle.hem_law.specs.Printed.{firings_in, on_line, entries_at}
 use Rattle.hem_trace.specs.Templates.{template_at}
 use Rattle.hem_law.specs.Windows.{AreWholeBlocks}
 use Rattle.hem_law.proofs.ListFacts.{each-filter}
-use Rattle.hem_windows.specs.Blocks as windows
 use Rattle.hem_windows.specs.Blocks.{templates_at, are_blocks}
 use Rattle.hem_orderly.specs.Climbs.{IsTemplated}
-
--- one template by two definitions
-same_template : (p : Protocol) (tree : Tree) (f : Firing) → windows.template_at p tree f ≡ template_at p tree f
-same_template p tree f = by_kind (kind_of tree f.object.0)
-  where
-    by_result : (r : Result TemplateName Clause) → windows.template_if r ≡ template_if r
-    by_result (Ok t) = refl
-    by_result (Err c) = refl
-
-    by_rule : (kind : Kind) (rule : Option Rule) → option_and_then (λ rule. windows.template_if (template_of p kind rule)) rule ≡ option_and_then (λ rule. template_if (template_of p kind rule)) rule
-    by_rule kind None = refl
-    by_rule kind (Some rule) = by_result (template_of p kind rule)
-
-    by_kind : (kind : Option Kind) → option_and_then (λ kind. option_and_then (λ rule. windows.template_if (template_of p kind rule)) (rule_named p kind f.rule)) kind ≡ option_and_then (λ kind. option_and_then (λ rule. template_if (template_of p kind rule)) (rule_named p kind f.rule)) kind
-    by_kind None = refl
-    by_kind (Some kind) = by_rule kind (rule_named p kind f.rule)
 
 -- the template of an entry
 abbrev entry_template : Protocol → Tree → Entry → Option TemplateName
@@ -62,9 +45,9 @@ templates_are p tree l o (x ∷ xs) templated = by_line (x.event.firing.line.0 =
     h = line_firings l (firings_in xs)
 
     by_object : (b : Bool) → (f.object.0 == o) ≡ b → templates_at p tree o h ≡ filter_map (entry_template p tree) (entries_at l o xs) → templates_at p tree o (f ∷ h) ≡ filter_map (entry_template p tree) (cond b (x ∷ entries_at l o xs) (entries_at l o xs))
-    by_object false is rest = filter_map-none (λ f. cond (f.object.0 == o) (windows.template_at p tree f) None) f h (ap (λ b. cond b (windows.template_at p tree f) None) is) ∙ rest
+    by_object false is rest = filter_map-none (λ f. cond (f.object.0 == o) (template_at p tree f) None) f h (ap (λ b. cond b (template_at p tree f) None) is) ∙ rest
     by_object true is rest =
-        filter_map-some (λ f. cond (f.object.0 == o) (windows.template_at p tree f) None) f h templated.0.0 (ap (λ b. cond b (windows.template_at p tree f) None) is ∙ same_template p tree f ∙ templated.0.1)
+        filter_map-some (λ f. cond (f.object.0 == o) (template_at p tree f) None) f h templated.0.0 (ap (λ b. cond b (template_at p tree f) None) is ∙ templated.0.1)
         ∙ ap (λ ts. templated.0.0 ∷ ts) rest
         ∙ sym (filter_map-some (entry_template p tree) x (entries_at l o xs) templated.0.0 templated.0.1)
 
