@@ -1,5 +1,5 @@
 -- Sets of a rule read back.
-use Rattle.std.proofs.Common.{◌≡◌, ℕ, suc, ◌+◌, ◌≤◌, Bool, true, false, not, ◌==◌, List, [], ◌∷◌, ◌++◌, length, length-append, refl, sym, ap, ◌∙◌, arith, None, append_assoc, append-nil, nat_lt, lt-ltb}
+use Rattle.std.proofs.Common.{◌≡◌, ℕ, ◌+◌, ◌≤◌, Bool, true, false, not, ◌==◌, List, [], ◌∷◌, ◌++◌, length, refl, sym, ap, ◌∙◌, arith, None, append_assoc, append-nil, nat_lt}
 use Rattle.std.specs.List.{list_all, list_any}
 use Rattle.std.proofs.lemmas.List.Folds.{list_any-append}
 use Rattle.hem_base.specs.Words.{word_bytes}
@@ -27,7 +27,7 @@ use Rattle.hem_print.specs.Canonical.{Word, plain, named, signed, assign_words, 
 use Rattle.hem_print.proofs.Steps.{go, picks, pick}
 use Rattle.hem_print.proofs.Naming.{and_left, and_right, room, room_after, not_true, not_false, or_left, or_right, or_both, cond_true, cond_false, last_snoc, set_last_snoc}
 use Rattle.hem_print.proofs.SetRuns.{status_in}
-use Rattle.hem_print.proofs.Around.{Around, env, AreNamed, GoesOn, Part, sets, frees, locks, sends, ends, part_word, order, pass_over, field_known, field_is, status_known, status_is, no_field}
+use Rattle.hem_print.proofs.Around.{Around, env, AreNamed, GoesOn, Part, sets, part_word, order, pass_over, field_known, field_is, status_known, status_is, no_field}
 
 -- a value of a set
 value_run : (p : Protocol) (k : KindPart) (c : Around) (x : Rule) (rest : List (Symbol Terminal Item)) (v : Value) (tail : List Word) →

@@ -1,5 +1,5 @@
 -- Guards read back.
-use Rattle.std.proofs.Common.{◌≡◌, ℕ, suc, ◌+◌, ◌≤◌, true, false, not, ◌==◌, List, [], ◌∷◌, ◌++◌, length, length-append, refl, sym, ap, ◌∙◌, arith, None, append_assoc, append-nil, nat_lt, lt-ltb, ltb-true}
+use Rattle.std.proofs.Common.{◌≡◌, ℕ, ◌+◌, ◌≤◌, true, false, not, ◌==◌, List, [], ◌∷◌, ◌++◌, length, refl, sym, ap, ◌∙◌, None, append_assoc, append-nil, nat_lt, ltb-true}
 use Rattle.std.specs.List.{list_all}
 use Rattle.hem_base.specs.Sets.{has_bit}
 use Rattle.hem_base.specs.Words.{word_bytes}
@@ -26,7 +26,7 @@ use Rattle.hem_print.specs.Canonical.{Word, plain, named, signed, atom_words, se
 use Rattle.hem_print.proofs.Steps.{go, picks, pick}
 use Rattle.hem_print.proofs.Naming.{and_left, and_right, room, room_after, cond_true, cond_false, last_snoc, set_last_snoc}
 use Rattle.hem_print.proofs.SetRuns.{Fills, status_in, set_run}
-use Rattle.hem_print.proofs.Around.{Around, env, AreNamed, IsPastSet, GoesOn, Part, sets, frees, locks, sends, ends, part_word, past_set, pass_over, field_known, field_is, message_known, message_is, no_field}
+use Rattle.hem_print.proofs.Around.{Around, env, AreNamed, IsPastSet, GoesOn, Part, sets, part_word, past_set, pass_over, field_known, field_is, message_known, message_is, no_field}
 
 -- a kind of condition that has a set
 pub record HoldsSet (make : StatusSet → Atom) : Type 0 where

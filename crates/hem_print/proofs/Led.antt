@@ -4,7 +4,7 @@ use Rattle.std.specs.Prelude.{codes}
 use Rattle.std.proofs.lemmas.Grind.{flat_map-append}
 use Rattle.hem_base.specs.declared.words.Sign.TheVariants as sign
 use Rattle.hem_base.specs.declared.words.Reserved.TheVariants as word
-use Rattle.hem_syntax.specs.Protocol.{Protocol, KindPart}
+use Rattle.hem_syntax.specs.Protocol.{Protocol}
 use Rattle.hem_print.specs.Canonical.{Word, signed, words_text, led, Line, end_line, line_text, lines_text, declaration_lines, kind_lines, protocol_text}
 
 -- words after words

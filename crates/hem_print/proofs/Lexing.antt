@@ -7,8 +7,6 @@ use Rattle.hem_text.specs.declared.text.TokenKind.{TokenKind}
 use Rattle.hem_text.specs.declared.text.TokenKind.TheVariants as kind
 use Rattle.hem_text.specs.declared.text.Place.{Place}
 use Rattle.hem_text.specs.declared.text.Piece.{Piece}
-use Rattle.hem_base.specs.declared.words.Reserved.{Reserved}
-use Rattle.hem_base.specs.declared.words.Reserved.TheVariants as word
 use Rattle.hem_base.specs.declared.words.Sign.{Sign}
 use Rattle.hem_base.specs.declared.words.Sign.TheVariants as sign
 use Rattle.hem_text.specs.Lexemes.{Lexeme}

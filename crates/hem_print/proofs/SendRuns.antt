@@ -1,5 +1,5 @@
 -- What rules take, need, free, lock and send, read back.
-use Rattle.std.proofs.Common.{◌≡◌, ℕ, ◌≤◌, true, not, ◌==◌, ◌&&◌, List, [], ◌∷◌, ◌++◌, length, refl, sym, ap, ◌∙◌, arith, Option, Some, None, append_assoc, nat_lt, ltb-true}
+use Rattle.std.proofs.Common.{◌≡◌, ℕ, ◌≤◌, true, not, ◌==◌, ◌&&◌, List, [], ◌∷◌, ◌++◌, length, refl, ap, ◌∙◌, arith, Option, Some, None, append_assoc, nat_lt, ltb-true}
 use Rattle.hem_base.specs.declared.ids.MsgId.{MsgId}
 use Rattle.hem_base.specs.declared.ids.StatusSet.{StatusSet}
 use Rattle.hem_base.specs.declared.words.Reserved.TheVariants as word
