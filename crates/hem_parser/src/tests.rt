@@ -140,9 +140,15 @@ fn first_faults(rt: HostRuntime) -> Result<(), Fail> {
 fn cut_after_each_line(rt: HostRuntime) -> Result<(), Fail> {
     for count in 0..11 {
         let text = front(rt.alloc(), count)?;
-        let place = Place { line: count as u32 + 1, column: 1 };
+        let place = Place {
+            line: count as u32 + 1,
+            column: 1,
+        };
         let cause = Cause::Expected;
-        assert_eq!(rt; fault_of(rt.alloc(), text.as_str())?, Some(TextFault { place, cause }));
+        assert_eq!(rt;
+            fault_of(rt.alloc(), text.as_str())?,
+            Some(TextFault { place, cause })
+        );
     }
     Ok(())
 }
