@@ -29,7 +29,7 @@ pub name_read : Mk (the.Part part.Name) unread (stating 0)
 name_read e t h spelled fresh within =
     let none : e.statuses ≡ [] = ap (λ v. v.statuses) h in (
       record {
-        name = declarable t.kind t.text spelled within;
+        name = declarable t spelled within;
         some = omega arith;
         few = rw none (omega arith);
         names = rw none (record { declarable = refl; once = refl });
@@ -55,7 +55,7 @@ status_read n e t h spelled fresh within =
         name = h.0.name;
         some = omega (arith, h.0.some, length_more e.statuses t.text);
         few = omega (arith, under (length e.statuses) 4 short.1, length_more e.statuses t.text);
-        names = names_more e.statuses t.text h.0.names (declarable t.kind t.text spelled short.0) apart.0;
+        names = names_more e.statuses t.text h.0.names (declarable t spelled short.0) apart.0;
         messages = h.0.messages;
       },
       h.1,
@@ -94,7 +94,7 @@ message_read e t h spelled fresh within =
         some = h.0.some;
         few = h.0.few;
         few_messages = omega (arith, under (length e.messages) 64 short.1, length_more e.messages (t.text, ExtReq));
-        names = subst Names (sym more) (names_more (all_names e.statuses e.messages) t.text h.0.names (declarable t.kind t.text spelled short.0) absent);
+        names = subst Names (sym more) (names_more (all_names e.statuses e.messages) t.text h.0.names (declarable t spelled short.0) absent);
       },
       h.1,
     )
@@ -164,7 +164,7 @@ field_read κ e t h spelled fresh within =
         mid = h.0.mid;
         now = record {
           few_fields = omega (arith, under (length e.fields) 3 short.1, length_more e.fields (t.text, first_status));
-          names = subst Names (sym (map_more (λ f. f.0) e.fields (t.text, first_status))) (names_more (map (λ f. f.0) e.fields) t.text h.0.now.names (declarable t.kind t.text spelled short.0) absent);
+          names = subst Names (sym (map_more (λ f. f.0) e.fields (t.text, first_status))) (names_more (map (λ f. f.0) e.fields) t.text h.0.now.names (declarable t spelled short.0) absent);
           starts = all_more (λ f. nat_lt f.1.0 (length e.statuses)) e.fields (t.text, first_status) h.0.now.starts first;
           few_rules = h.0.now.few_rules;
           rules = rw h.2 refl;

@@ -2,7 +2,7 @@
 use Rattle.std.proofs.Common.{◌≡◌, ◌<◌, ◌≤◌, nat_lt, Bool, true, List, [], ◌∷◌, ◌++◌, length, refl, sym, subst, ◌∙◌, arith}
 use Rattle.std.specs.List.{list_any}
 use Rattle.std.specs.Str.{bytes_eq}
-use Rattle.hem_text.specs.declared.text.TokenKind.{TokenKind}
+use Rattle.hem_text.specs.Lexemes.{Lexeme}
 use Rattle.hem_base.specs.declared.ids.Kind.{Kind}
 use Rattle.hem_base.specs.declared.ids.Status8.{Status8}
 use Rattle.hem_base.specs.declared.ids.MsgId.{MsgId}
@@ -30,8 +30,8 @@ use Rattle.hem_parser.proofs.Declaring.{Mk, has}
 use Rattle.hem_parser.proofs.Ruling.{has_it}
 
 -- a field that is used is declared
-has_one : (e : Read) (k : TokenKind) (text : Text) → is_field e k text ≡ true → nat_lt (field e text) (length e.fields) ≡ true
-has_one e k text used = place_within (λ f. bytes_eq f.0 text) e.fields (some_of (λ f. bytes_eq f.0 text) e.fields (both (is_word k) (is_among e.fields text) used).1)
+has_one : (e : Read) (t : Lexeme) → is_field e t ≡ true → nat_lt (field e t.text) (length e.fields) ≡ true
+has_one e t used = place_within (λ f. bytes_eq f.0 t.text) e.fields (some_of (λ f. bytes_eq f.0 t.text) e.fields (both (is_word t) (is_among e.fields t.text) used).1)
 
 -- one atom more that is still open
 abbrev open_more : (n : Counts) (guard : List Atom) (a : Atom) → Guard n guard → length guard < 16 → Open n (guard ++ a ∷ [])
@@ -110,7 +110,7 @@ module _ (κ : Kind) (d : Bool) where
       take = h.2.take;
       guard = (
         open_more (counts e) e.rule.guard (condition.Field (field e t.text) no_status) h.2.guard (under (length e.rule.guard) 16 within),
-        record { with_any = λ s declared. rw (has_one e t.kind t.text spelled, first_set (counts e) s h.0.declared.few declared) refl },
+        record { with_any = λ s declared. rw (has_one e t spelled, first_set (counts e) s h.0.declared.few declared) refl },
       );
       sets = h.2.sets;
       send = h.2.send;
@@ -236,7 +236,7 @@ module _ (κ : Kind) (d : Bool) where
     h.1,
     record {
       take = h.2.take;
-      guard = closed (counts e) e.rule.guard (λ a. condition.Asked (message e t.text)) h.2.guard (has_it e t.kind t.text spelled);
+      guard = closed (counts e) e.rule.guard (λ a. condition.Asked (message e t.text)) h.2.guard (has_it e t spelled);
       sets = h.2.sets;
       send = h.2.send;
     },
@@ -253,7 +253,7 @@ module _ (κ : Kind) (d : Bool) where
   set_field_read e t h spelled fresh within =
       let a = setting.Field (field e t.text) first_status in
       let first : nat_lt 0 (length e.statuses) ≡ true = is_under 0 (length e.statuses) (omega (arith, h.0.declared.some)) in
-      let one : has_assign (counts e) a ≡ true = rw (has_one e t.kind t.text spelled, first) refl in
+      let one : has_assign (counts e) a ≡ true = rw (has_one e t spelled, first) refl in
       let apart = is_not (list_any (sets_field (field e t.text)) e.rule.sets) fresh in (
         h.0,
         h.1,
@@ -370,7 +370,7 @@ module _ (κ : Kind) (d : Bool) where
   send_message_read e t h spelled fresh within = (
     h.0,
     h.1,
-    record { take = h.2.take; guard = h.2.guard; sets = h.2.sets; send = h.2.send (message e t.text) (has_it e t.kind t.text spelled) },
+    record { take = h.2.take; guard = h.2.guard; sets = h.2.sets; send = h.2.send (message e t.text) (has_it e t spelled) },
   )
 
   pub send_value_read : (v : Value) → Mk (the.Send (send.Value v)) (inside κ d whole) (inside κ d whole)

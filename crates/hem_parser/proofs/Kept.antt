@@ -4,7 +4,8 @@ use Rattle.std.specs.Prelude.{find, map}
 use Rattle.std.proofs.lemmas.Option.{option_and_then_some}
 use Rattle.hem_text.specs.declared.symbol.Symbol.{Symbol}
 use Rattle.hem_text.specs.declared.symbol.Symbol.TheVariants.{One, Item as Some_of, Maybe, Many}
-use Rattle.hem_text.specs.Grammars.{Grammar, Lexeme, State, Way, full, goes, next, run, ways, way_at, way_into, takes, state}
+use Rattle.hem_text.specs.Lexemes.{Lexeme}
+use Rattle.hem_text.specs.Grammars.{Grammar, State, Way, full, goes, next, run, ways, way_at, way_into, takes, state}
 
 -- each element has it
 abbrev pub Each : {X : Type 0} → (X → Type 0) → List X → Type 0

@@ -8,7 +8,8 @@ use Rattle.hem_base.specs.declared.words.Sign.{Sign}
 use Rattle.hem_base.specs.declared.words.Sign.TheVariants as mark
 use Rattle.hem_text.specs.declared.symbol.Symbol.{Symbol}
 use Rattle.hem_text.specs.declared.symbol.Symbol.TheVariants.{One, Item as Some_of, Many}
-use Rattle.hem_text.specs.Grammars.{Lexeme, state, Reads}
+use Rattle.hem_text.specs.Lexemes.{Lexeme}
+use Rattle.hem_text.specs.Grammars.{state, Reads}
 use Rattle.hem_syntax.specs.declared.rule.Class.TheVariants as class
 use Rattle.hem_syntax.specs.declared.rule.Hold.TheVariants as hold
 use Rattle.hem_syntax.specs.declared.rule.Side.TheVariants as side
@@ -26,7 +27,7 @@ use Rattle.hem_syntax.specs.Protocol.{Protocol, KindPart}
 use Rattle.hem_grammar.specs.Grammar.{start, root, mid, leaf}
 use Rattle.hem_syntax.specs.Lawful.{IsProtocol, IsPart}
 use Rattle.hem_grammar.specs.Draft.{Read, grammar, nothing, protocol_of}
-use Rattle.hem_parser.specs.Reading.{begin}
+use Rattle.hem_parser.specs.ProtocolReading.{begin}
 use Rattle.hem_parser.proofs.Kept.{By, Seq, Token, Leads, run_keeps, ends_so}
 use Rattle.hem_parser.proofs.Claims.{Claim, unread, stating, declaring, opening, between, opened, inside, whole, taking, speaking, asking, testing, valuing, choosing, sending, Holds, Kind_of}
 use Rattle.hem_parser.proofs.Declaring.{name_read, status_read, status_more, stated, message_read, class_read, declared, field_read, start_read, opened_all, dir_read, root_read, mid_read}

@@ -1,11 +1,11 @@
 -- Names that may be declared, one name more, and the order in which rules have their names.
-use Rattle.std.proofs.Common.{◌≡◌, ℕ, ◌+◌, ◌==◌, nat_lt, nat_le, Bool, true, false, cond, not, List, [], ◌∷◌, ◌++◌, length, refl, ap, ◌∙◌, Option, Some, None, is_some, suc, arith}
+use Rattle.std.proofs.Common.{◌≡◌, ℕ, ◌+◌, ◌==◌, nat_lt, nat_le, Bool, true, false, cond, not, ◌&&◌, List, [], ◌∷◌, ◌++◌, length, refl, ap, ◌∙◌, Option, Some, None, is_some, suc, arith}
 use Rattle.std.specs.Prelude.{unwrap_or, if◌then◌else◌}
 use Rattle.std.specs.List.{list_any}
 use Rattle.std.specs.Str.{bytes_eq}
-use Rattle.hem_text.specs.declared.text.TokenKind.{TokenKind}
-use Rattle.hem_text.specs.declared.text.TokenKind.TheVariants.{Word, Number, Sign, Bad}
-use Rattle.hem_text.specs.Spelling.{is_name}
+use Rattle.hem_text.specs.Lexemes.{Lexeme}
+use Rattle.hem_text.specs.Spelling.{is_name, is_word}
+use Rattle.hem_base.specs.Words.{is_word_text, is_reserved}
 use Rattle.hem_syntax.specs.declared.rule.Rule.{Rule}
 use Rattle.hem_syntax.specs.Protocol.{Text}
 use Rattle.hem_syntax.specs.Lawful.{is_declarable, are_distinct, named_once, names_after}
@@ -15,11 +15,11 @@ use Rattle.hem_parser.proofs.Lists.{both, neither, is_not, all_more, any_more, l
 use Rattle.hem_parser.proofs.Claims.{Names, name_after}
 
 -- a word that isn't reserved and has the length of a name
-pub declarable : (k : TokenKind) (text : Text) → is_name k text ≡ true → is_short text ≡ true → is_declarable text ≡ true
-declarable Word text name short = let two = both (nat_le 1 (length text)) (nat_le (length text) 32) short in rw (two.0, two.1) name
-declarable Number text name short = absurd cc
-declarable Sign text name short = absurd cc
-declarable Bad text name short = absurd cc
+pub declarable : (t : Lexeme) → is_name t ≡ true → is_short t.text ≡ true → is_declarable t.text ≡ true
+declarable t name short =
+    let two = both (nat_le 1 (length t.text)) (nat_le (length t.text) 32) short in
+    let named = both (is_word t && is_word_text t.text) (not (is_reserved t.text)) name in
+    rw (two.0, two.1, (both (is_word t) (is_word_text t.text) named.0).1) named.1
 
 once_more : (ns : List Text) (t : Text) → are_distinct ns ≡ true → is_in ns t ≡ false → are_distinct (ns ++ t ∷ []) ≡ true
 once_more [] t once fresh = refl

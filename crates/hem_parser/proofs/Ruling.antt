@@ -2,7 +2,7 @@
 use Rattle.std.proofs.Common.{◌≡◌, ◌==◌, nat_lt, Bool, true, [], ◌∷◌, ◌++◌, append_assoc, length, refl, sym, ap, ◌∙◌, arith}
 use Rattle.std.specs.List.{list_any}
 use Rattle.std.specs.Str.{bytes_eq}
-use Rattle.hem_text.specs.declared.text.TokenKind.{TokenKind}
+use Rattle.hem_text.specs.Lexemes.{Lexeme}
 use Rattle.hem_base.specs.declared.ids.Kind.{Kind}
 use Rattle.hem_base.specs.declared.ids.MsgId.{MsgId}
 use Rattle.hem_syntax.specs.declared.rule.Take.{Take}
@@ -23,8 +23,8 @@ use Rattle.hem_parser.proofs.Claims.{between, opened, inside, whole, taking, Rul
 use Rattle.hem_parser.proofs.Declaring.{Mk}
 
 -- a message that is used is declared
-pub has_it : (e : Read) (k : TokenKind) (text : Text) → is_message e k text ≡ true → nat_lt (message e text).0 (length e.messages) ≡ true
-has_it e k text used = place_within (λ m. bytes_eq m.0 text) e.messages (some_of (λ m. bytes_eq m.0 text) e.messages (both (is_word k) (is_among e.messages text) used).1)
+pub has_it : (e : Read) (t : Lexeme) → is_message e t ≡ true → nat_lt (message e t.text).0 (length e.messages) ≡ true
+has_it e t used = place_within (λ m. bytes_eq m.0 t.text) e.messages (some_of (λ m. bytes_eq m.0 t.text) e.messages (both (is_word t) (is_among e.messages t.text) used).1)
 
 module _ (κ : Kind) (d : Bool) where
   -- the word with which a rule begins
@@ -36,7 +36,7 @@ module _ (κ : Kind) (d : Bool) where
   rule_name_read e t h spelled fresh within = (
     record {
       declared = h.0.declared;
-      rule_names = known_names e.rule_names t.text h.0.rule_names (declarable t.kind t.text spelled within);
+      rule_names = known_names e.rule_names t.text h.0.rule_names (declarable t spelled within);
       root = h.0.root;
       mid = h.0.mid;
       now = h.0.now;
@@ -81,7 +81,7 @@ module _ (κ : Kind) (d : Bool) where
   take_message_read e t h spelled fresh within = (
     h.0,
     h.1,
-    record { take = taken (counts e) e.rule.take (message e t.text) (has_it e t.kind t.text spelled); guard = h.2.guard; sets = h.2.sets; send = h.2.send },
+    record { take = taken (counts e) e.rule.take (message e t.text) (has_it e t spelled); guard = h.2.guard; sets = h.2.sets; send = h.2.send },
   )
 
   -- what it needs, frees and locks

@@ -1,8 +1,5 @@
 use crate::protocol;
-use hem_base::{Kind, MsgId, Status8, StatusSet};
-use hem_shipped::MSI_INCLUSIVE;
-use hem_syntax::{Atom, Protocol, Rule, SendTo, Take, Value};
-use hem_text::{Cause, Cursor, Place, TextError, TextFault, Token, place_after, tokens};
+use hem_text::{Cause, Cursor, Place, TextError, TextFault};
 use std::alloc::Global;
 use std::test::Fail;
 
@@ -21,189 +18,88 @@ pub static LINES: [&str; 11] = [
     "end",
 ];
 
-/// A line of the protocol, what stands there in its place, and where the first fault is, with its cause.
-pub static FAULTS: [(usize, &str, u32, u32, Cause); 27] = [
-    (2, "status I S M E X", 2, 16, Cause::TooMany),
-    (2, "status I S M E I", 2, 16, Cause::Repeated),
-    (2, "status I I", 2, 10, Cause::Repeated),
-    (2, "status I", 3, 1, Cause::Expected),
-    (3, "message I ext_req", 3, 9, Cause::Repeated),
-    (3, "message status ext_req", 3, 9, Cause::Expected),
-    (
-        3,
-        "message aaaaaaaaaaaaaaaaaaaaaaaaaaaaaaaaa ext_req",
-        3,
-        9,
-        Cause::TooMany,
-    ),
-    (3, "message Ld frob", 3, 12, Cause::Expected),
-    (3, "message Ld ext_req frob", 3, 20, Cause::Expected),
-    (5, "kind root dir init Ld end", 5, 20, Cause::Unknown),
-    (
-        8,
-        "rule ld_hit take me Frob need up free down free",
-        8,
-        21,
-        Cause::Unknown,
-    ),
-    (
-        8,
-        "rule ld_hit take me aaaaaaaaaaaaaaaaaaaaaaaaaaaaaaaaa need up free down free",
-        8,
-        21,
-        Cause::Unknown,
-    ),
-    (
-        8,
-        "rule ld_hit take me I need up free down free",
-        8,
-        21,
-        Cause::Unknown,
-    ),
-    (
-        8,
-        "rule ld_hit take me kind need up free down free",
-        8,
-        21,
-        Cause::Expected,
-    ),
-    (
-        8,
-        "rule ld_hit take me 5 need up free down free",
-        8,
-        21,
-        Cause::Expected,
-    ),
-    (
-        8,
-        "rule ld_hit take me Ld need up frob down free",
-        8,
-        32,
-        Cause::Expected,
-    ),
-    (
-        9,
-        "when frob in S send me LdR val end",
-        9,
-        6,
-        Cause::Unknown,
-    ),
-    (
-        9,
-        "when st in S S send me LdR val end",
-        9,
-        14,
-        Cause::Repeated,
-    ),
-    (
-        9,
-        "when st in S frob send me LdR val end",
-        9,
-        14,
-        Cause::Expected,
-    ),
-    (
-        9,
-        "when st in S, asked Ld frob send me LdR val end",
-        9,
-        24,
-        Cause::Expected,
-    ),
-    (
-        9,
-        "when st in S set st := S, st := I send me LdR val end",
-        9,
-        27,
-        Cause::Repeated,
-    ),
-    (
-        9,
-        "when st in S set st := S frob send me LdR val end",
-        9,
-        26,
-        Cause::Expected,
-    ),
-    (
-        9,
-        "when st in S set val := 7 send me LdR val end",
-        9,
-        25,
-        Cause::Expected,
-    ),
-    (
-        9,
-        "when st in S set val := frob send me LdR val end",
-        9,
-        25,
-        Cause::Expected,
-    ),
-    (
-        9,
-        "when st in S, st in S, st in S, st in S, st in S, st in S, st in S, st in S, st in S, st in S, st in S, st in S, st in S, st in S, st in S, st in S, st in S send me LdR val end",
-        9,
-        150,
-        Cause::TooMany,
-    ),
-    (
-        9,
-        "when st in S, st in S, st in S, st in S, st in S, st in S, st in S, st in S, st in S, st in S, st in S, st in S, st in S, st in S, st in S, st in S, frob in S send me LdR val end",
-        9,
-        150,
-        Cause::Unknown,
-    ),
-    (
-        9,
-        "when st in S send me LdR 99999999999999999999999 end",
-        9,
-        26,
-        Cause::Expected,
-    ),
-];
+/// A text: the protocol, of which the line of this number is another one, and its first fault, if it has one.
+pub struct Row {
+    pub name: &'static str,
+    pub number: usize,
+    pub line: &'static str,
+    pub fault: Option<TextFault>,
+}
 
-/// Texts with `use`, or without anything, and the first fault.
-pub static USES: [(&str, u32, u32, Cause); 6] = [
-    ("use frob", 1, 5, Cause::Unknown),
-    ("use status", 1, 5, Cause::Expected),
-    (
-        "use aaaaaaaaaaaaaaaaaaaaaaaaaaaaaaaaa",
-        1,
-        5,
-        Cause::Unknown,
-    ),
-    ("use", 1, 4, Cause::Expected),
-    ("use 5", 1, 5, Cause::Expected),
-    ("", 1, 1, Cause::Expected),
-];
+/// Rows `NAME: NUMBER LINE => FAULT LINE:COLUMN CAUSE`, or `NAME: NUMBER LINE => reads`.
+macro_rules! rows {
+    ($($name:literal: $number:literal $new:literal => $fault:expr;)*) => {
+        [$(Row { name: $name, number: $number, line: $new, fault: $fault }),*]
+    };
+}
+
+macro_rules! at {
+    ($line:literal, $column:literal, $cause:ident) => {
+        Some(TextFault { place: Place { line: $line, column: $column }, cause: Cause::$cause })
+    };
+}
+
+pub static ROWS: [Row; 39] = rows! {
+    "five statuses": 2 "status I S M E X" => at!(2, 16, TooMany);
+    "five statuses, the last one again": 2 "status I S M E I" => at!(2, 16, Repeated);
+    "a status again": 2 "status I I" => at!(2, 10, Repeated);
+    "one status": 2 "status I" => at!(3, 1, Expected);
+    "a message named as a status": 3 "message I ext_req" => at!(3, 9, Repeated);
+    "a reserved word as a message": 3 "message status ext_req" => at!(3, 9, Expected);
+    "a name of 33 bytes": 3 "message aaaaaaaaaaaaaaaaaaaaaaaaaaaaaaaaa ext_req" => at!(3, 9, TooMany);
+    "no class": 3 "message Ld frob" => at!(3, 12, Expected);
+    "a name after a class": 3 "message Ld ext_req frob" => at!(3, 20, Expected);
+    "a message as a status": 5 "kind root dir init Ld end" => at!(5, 20, Unknown);
+    "an undeclared message": 8 "rule ld_hit take me Frob need up free down free" => at!(8, 21, Unknown);
+    "an undeclared message of 33 bytes": 8 "rule ld_hit take me aaaaaaaaaaaaaaaaaaaaaaaaaaaaaaaaa need up free down free" => at!(8, 21, Unknown);
+    "a status as a message": 8 "rule ld_hit take me I need up free down free" => at!(8, 21, Unknown);
+    "a reserved word as a used name": 8 "rule ld_hit take me kind need up free down free" => at!(8, 21, Expected);
+    "a number as a used name": 8 "rule ld_hit take me 5 need up free down free" => at!(8, 21, Expected);
+    "a name where a word is wanted": 8 "rule ld_hit take me Ld need up frob down free" => at!(8, 32, Expected);
+    "an undeclared field": 9 "when frob in S send me LdR val end" => at!(9, 6, Unknown);
+    "a status again in a set": 9 "when st in S S send me LdR val end" => at!(9, 14, Repeated);
+    "a name after a set": 9 "when st in S frob send me LdR val end" => at!(9, 14, Expected);
+    "a name after a message": 9 "when st in S, asked Ld frob send me LdR val end" => at!(9, 24, Expected);
+    "a field set twice": 9 "when st in S set st := S, st := I send me LdR val end" => at!(9, 27, Repeated);
+    "a name after the sets": 9 "when st in S set st := S frob send me LdR val end" => at!(9, 26, Expected);
+    "a number that isn't 0": 9 "when st in S set val := 7 send me LdR val end" => at!(9, 25, Expected);
+    "a name as a value": 9 "when st in S set val := frob send me LdR val end" => at!(9, 25, Expected);
+    "17 conditions": 9 "when st in S, st in S, st in S, st in S, st in S, st in S, st in S, st in S, st in S, st in S, st in S, st in S, st in S, st in S, st in S, st in S, st in S send me LdR val end" => at!(9, 150, TooMany);
+    "17 conditions, the last one of no field": 9 "when st in S, st in S, st in S, st in S, st in S, st in S, st in S, st in S, st in S, st in S, st in S, st in S, st in S, st in S, st in S, st in S, frob in S send me LdR val end" => at!(9, 150, Unknown);
+    "a long number": 9 "when st in S send me LdR 99999999999999999999999 end" => at!(9, 26, Expected);
+    "no shipped protocol": 1 "use frob" => at!(1, 5, Unknown);
+    "no shipped protocol, of 33 bytes": 1 "use aaaaaaaaaaaaaaaaaaaaaaaaaaaaaaaaa" => at!(1, 5, Unknown);
+    "a number after use": 1 "use 5" => at!(1, 5, Expected);
+    "a reserved word after use": 1 "use" => at!(2, 1, Expected);
+    "neither use nor protocol": 1 "" => at!(2, 1, Expected);
+    "the protocol": 1 "protocol one" => None;
+    "a field named as a status": 7 "kind leaf field st init S field I init S" => None;
+    "a number of value 0": 9 "when st in S set val := 00, st := S send me LdR val end" => None;
+    "the first shipped one": 1 "use msi_inclusive" => None;
+    "the second shipped one": 1 "use mesi_inclusive" => None;
+    "the third shipped one": 1 "use msi_noninclusive" => None;
+    "the fourth shipped one": 1 "use mesi_noninclusive" => None;
+};
 
 fn lines() -> &'static [&'static str] {
     &LINES
 }
 
-fn faults() -> &'static [(usize, &'static str, u32, u32, Cause)] {
-    &FAULTS
+fn rows() -> &'static [Row] {
+    &ROWS
 }
 
-fn uses() -> &'static [(&'static str, u32, u32, Cause)] {
-    &USES
-}
-
-fn fault(line: u32, column: u32, cause: Cause) -> TextError {
-    let place = Place { line, column };
-    TextError::Text(TextFault { place, cause })
-}
-
-/// The protocol that a text begins with.
-fn read(alloc: Global, bytes: &[u8]) -> Result<Protocol, TextError> {
+/// The first fault of the protocol with which a text begins, if it has one.
+fn fault_of(alloc: Global, text: &str) -> Result<Option<TextFault>, Fail> {
+    let bytes = text.as_bytes();
     if bytes.len() > 10_000_000 {
-        return Err(TextError::OutOfMemory);
+        return Ok(None);
     }
-    let tokens = tokens(alloc, bytes)?;
-    let mut cursor = Cursor {
-        bytes,
-        tokens: tokens.as_slice(),
-        at: 0,
-    };
-    protocol(alloc, &mut cursor)
+    match protocol(alloc, &mut Cursor::new(bytes)) {
+        Ok(_) => Ok(None),
+        Err(TextError::Text(fault)) => Ok(Some(fault)),
+        Err(e) => Err(e)?,
+    }
 }
 
 /// The protocol with another line.
@@ -216,95 +112,37 @@ fn text_with(alloc: Global, number: usize, line: &str) -> Result<String, Fail> {
     Ok(text)
 }
 
+/// The first lines of the protocol.
+fn front(alloc: Global, count: usize) -> Result<String, Fail> {
+    let mut text = String::new(alloc);
+    for line in lines().iter().take(count) {
+        text.push_str(line)?;
+        text.push_str("\n")?;
+    }
+    Ok(text)
+}
+
 #[test]
 fn first_faults(rt: HostRuntime) -> Result<(), Fail> {
-    for (number, new, line, column, cause) in faults() {
-        let text = text_with(rt.alloc(), *number, new)?;
-        let error = read(rt.alloc(), text.as_str().as_bytes()).err();
-        assert_eq!(rt; error, Some(fault(*line, *column, *cause)));
-    }
-    Ok(())
-}
-
-#[test]
-fn first_faults_of_use(rt: HostRuntime) -> Result<(), Fail> {
-    for (text, line, column, cause) in uses() {
-        let error = read(rt.alloc(), text.as_bytes()).err();
-        assert_eq!(rt; error, Some(fault(*line, *column, *cause)));
-    }
-    Ok(())
-}
-
-#[test]
-fn good_lines(rt: HostRuntime) -> Result<(), Fail> {
-    let named_alike = text_with(rt.alloc(), 7, "kind leaf field st init S field I init S")?;
-    let zero = text_with(
-        rt.alloc(),
-        9,
-        "when st in S set val := 00, st := S send me LdR val end",
-    )?;
-    assert!(rt; read(rt.alloc(), named_alike.as_str().as_bytes()).is_ok());
-    assert!(rt; read(rt.alloc(), zero.as_str().as_bytes()).is_ok());
-    Ok(())
-}
-
-/// Whether a rule is the one of the protocol.
-fn is_hit(rule: &Rule) -> bool {
-    let guard = rule.guard.get(0).copied();
-    rule.take == Take::Me(MsgId(0))
-        && guard == Some(Atom::Field(0, StatusSet(2)))
-        && rule.send == SendTo::Me(MsgId(1), Value::Val)
-}
-
-#[test]
-fn what_is_read(rt: HostRuntime) -> Result<(), Fail> {
-    let text = text_with(rt.alloc(), 1, "protocol one")?;
-    match read(rt.alloc(), text.as_str().as_bytes()) {
-        Ok(p) => {
-            assert_eq!(rt; p.statuses().place(b"S"), Some(1));
-            assert_eq!(rt; p.messages().place(b"LdR"), Some(1));
-            assert_eq!(rt; p.part(Kind::Root).dir, Some(Status8(0)));
-            assert_eq!(rt; p.rules(Kind::Leaf).len(), 1);
-            assert!(rt; p.rules(Kind::Leaf).iter().all(|rule| is_hit(rule)));
+    let mut failed = String::new(rt.alloc());
+    for row in rows() {
+        let text = text_with(rt.alloc(), row.number, row.line)?;
+        if fault_of(rt.alloc(), text.as_str())? != row.fault {
+            failed.push_str(row.name)?;
+            failed.push_str("; ")?;
         }
-        Err(_) => assert!(rt; false, "the protocol reads"),
     }
+    assert_eq!(rt; failed.as_str(), "");
     Ok(())
 }
 
 #[test]
-fn shipped_names(rt: HostRuntime) -> Result<(), Fail> {
-    assert!(rt; read(rt.alloc(), b"use msi_inclusive").is_ok());
-    assert!(rt; read(rt.alloc(), b"use mesi_inclusive").is_ok());
-    assert!(rt; read(rt.alloc(), b"use msi_noninclusive").is_ok());
-    assert!(rt; read(rt.alloc(), b"use mesi_noninclusive").is_ok());
-    Ok(())
-}
-
-/// The end of a text, where something was expected.
-fn end_fault(bytes: &[u8]) -> TextError {
-    if bytes.len() > 10_000_000 {
-        return TextError::OutOfMemory;
-    }
-    let place = place_after(Place { line: 1, column: 1 }, bytes);
-    let cause = Cause::Expected;
-    TextError::Text(TextFault { place, cause })
-}
-
-fn but_last(tokens: &[Token]) -> &[Token] {
-    match tokens.split_last() {
-        Some((_, rest)) => rest,
-        None => tokens,
-    }
-}
-
-#[test]
-fn cut_after_each_token(rt: HostRuntime) -> Result<(), Fail> {
-    let bytes = MSI_INCLUSIVE.as_bytes();
-    let tokens = tokens(rt.alloc(), bytes)?;
-    for token in but_last(tokens.as_slice()) {
-        let cut = &bytes[..token.end.min(bytes.len())];
-        assert_eq!(rt; read(rt.alloc(), cut).err(), Some(end_fault(cut)));
+fn cut_after_each_line(rt: HostRuntime) -> Result<(), Fail> {
+    for count in 0..11 {
+        let text = front(rt.alloc(), count)?;
+        let place = Place { line: count as u32 + 1, column: 1 };
+        let cause = Cause::Expected;
+        assert_eq!(rt; fault_of(rt.alloc(), text.as_str())?, Some(TextFault { place, cause }));
     }
     Ok(())
 }

@@ -4,3 +4,4 @@ pub mod Ways
 pub mod Runs
 pub mod Cut
 pub mod FirstFaults
+pub mod Columns

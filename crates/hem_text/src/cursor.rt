@@ -6,7 +6,7 @@ ghost use Rattle.hem_text.specs.Faults.{place_at};
 
 use crate::Place;
 use crate::lexeme::Lexeme;
-use crate::piece::{piece_at, place_after};
+use crate::piece::{piece_at, place_after, place_behind};
 use std::marker::Model;
 
 /// A place in a text from which readers go on, seen as the tokens that are left, and the place of the end of the text. It
@@ -69,7 +69,7 @@ impl<'a> Cursor<'a> {
         while !left.is_empty() {
             let piece = piece_at(left);
             let text = &left[..piece.len];
-            let after = place_after(place, text);
+            let after = place_behind(place, left, piece.len);
             left = &left[piece.len..];
             if let Some(kind) = piece.kind {
                 self.left = left;

@@ -115,16 +115,39 @@ pub fn piece_at(bytes: &[u8]) -> Piece
     }
 }
 
-/// The place just after these bytes, the first of which stands at `place`. Both lines and columns count from 1, and a
-/// column is a byte.
+/// The place just after the piece at the front, which has `len` bytes and the first of them at `place`. Both lines and
+/// columns count from 1, and a column is a byte.
+pub fn place_behind(place: Place, bytes: &[u8], len: usize) -> Place
+    requires some { 0 < length bytes.now }
+    requires piece { len ≡ (piece_of bytes.now).len }
+    requires within { len ≤ length bytes.now }
+    requires line { place.line + length bytes.now < 2 ^ 32 }
+    requires column { place.column + length bytes.now < 2 ^ 32 }
+    ensures same { result ≡ fold advance place (take len bytes.now) }
+    ensures line { result.line ≤ place.line + len }
+    ensures column { result.column ≤ place.column + len }
+    ensures first { 1 ≤ place.column → 1 ≤ result.column }
+{
+    // A line feed is a piece of its own.
+    if bytes[0] == b'\n' {
+        Place {
+            line: place.line + 1,
+            column: 1,
+        }
+    } else {
+        Place {
+            line: place.line,
+            column: place.column + len as u32,
+        }
+    }
+}
+
+/// The place just after these bytes, the first of which stands at `place`.
 pub fn place_after(place: Place, bytes: &[u8]) -> Place
     requires line { place.line + length bytes.now < 2 ^ 32 }
     requires column { place.column + length bytes.now < 2 ^ 32 }
     requires first { 1 ≤ place.column }
-    ensures same { result ≡ fold advance place bytes.now }
-    ensures line { result.line ≤ place.line + length bytes.now }
-    ensures column { result.column ≤ place.column + length bytes.now }
-    ensures first { 1 ≤ result.column }
+    ensures { result ≡ fold advance place bytes.now }
 {
     let mut line = place.line;
     let mut column = place.column;

@@ -1,5 +1,5 @@
 use Rattle.std.proofs.Common.{rules}
-use Rattle.hem_parser.specs.Reading.{IsProtocolOf, IsShippedAs}
+use Rattle.hem_parser.specs.ProtocolReading.{IsProtocolOf, IsShippedAs}
 use Rattle.hem_parser.proofs.Using.{if_ok, shipped_as}
 use Rattle.hem_parser.proofs.shipped_text.by_name.Goals as goal
 
