@@ -4,6 +4,7 @@ use Rattle.std.specs.List.{list_any}
 use Rattle.hem_text.specs.Lexemes.{Lexeme}
 use Rattle.hem_base.specs.declared.words.Reserved.{Reserved}
 use Rattle.hem_base.specs.declared.words.Reserved.TheVariants as word
+use Rattle.hem_base.specs.declared.words.Sign.{Sign}
 use Rattle.hem_base.specs.declared.words.Sign.TheVariants as sign
 use Rattle.hem_base.specs.declared.ids.Status8.{Status8}
 use Rattle.hem_base.specs.declared.ids.StatusSet.{StatusSet}

@@ -1,5 +1,7 @@
-use Rattle.std.proofs.Common.{sym, ◌∙◌}
-use Rattle.hem_fire.proofs.Parts.{can_fire-parts, second_fails, all_pass, plan-none, plan-some, planned-is}
+use Rattle.std.proofs.Common.{sym, ◌∙◌, ap, refl}
+use Rattle.hem_fire.specs.OneFire.{can_begin}
+use Rattle.hem_fire.specs.Sends.{send_names}
+use Rattle.hem_fire.proofs.Parts.{can_fire-parts, can_change, second_fails, all_pass, plan-none, plan-some, planned-is}
 use Rattle.hem_fire.proofs.plan.Plan.of.Goals as goal
 
 pub returns-then-not-can_change : goal.returns-then-not-can_change
