@@ -108,14 +108,26 @@ fn is_left<R: Abort>(rt: &R, name: &str, local: &Local, want: &Local) {
     assert_eq!(rt; local.down, want.down, "{name}");
 }
 
+/// Carries the plan of a rule out, and tells what the firing takes and sends; nothing where the rule can't fire.
+fn fired(
+    p: &Protocol,
+    kind: Kind,
+    rule: &Rule,
+    child: Option<u8>,
+    local: &mut Local,
+    heads: &Heads,
+) -> Option<Outs> {
+    let plan = Plan::of(p, kind, rule, child, local, heads)?;
+    Some(plan.fire(rule, local))
+}
+
 fn fires<R: Abort>(rt: &R, p: &Protocol, kind: Kind, row: &Fires) -> Result<(), Fail> {
     let rule = rule_of(p, kind, row.rule)?;
     let heads = heads_of(&row.scene);
     let mut local = local_of(&row.scene)?;
-    let Some(plan) = Plan::of(p, kind, rule, row.child, &local, &heads) else {
+    let Some(outs) = fired(p, kind, rule, row.child, &mut local, &heads) else {
         return Err(row.rule)?;
     };
-    let outs = plan.fire(rule, &mut local);
     assert_eq!(rt; outs, outs_of(row), "{}", row.rule);
     is_left(rt, row.rule, &local, &left_of(row)?);
     Ok(())

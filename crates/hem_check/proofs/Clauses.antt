@@ -1,5 +1,5 @@
 -- What it means that a rule meets all clauses.
-use Rattle.std.proofs.Common.{◌≡◌, refl, sym, ap, ◌∙◌, subst, Bool, true, false, ◌&&◌, cond, List, [], ◌∷◌, ◌++◌, Option, Some, None}
+use Rattle.std.proofs.Common.{◌≡◌, refl, sym, ap, ◌∙◌, Bool, true, false, ◌&&◌, cond, List, [], ◌∷◌, ◌++◌, Option, Some, None}
 use Rattle.std.specs.Prelude.{◌==◌, ◌↔◌, Result, Ok, Err, find, filter_map, slice_get, option_map, is_none}
 use Rattle.std.specs.List.{list_all, cons_option}
 use Rattle.hem_base.specs.declared.ids.Kind.{Kind}

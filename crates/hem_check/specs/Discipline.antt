@@ -1,5 +1,5 @@
 -- The discipline of protocols: each rule meets all eight clauses.
-use Rattle.std.specs.Prelude.{◌≡◌, Bool, true, false, List, ◌++◌, Option, None, Some, Result, Ok, Err, slice_get, filter_map, option_map, is_none}
+use Rattle.std.specs.Prelude.{◌≡◌, Bool, true, false, List, ◌++◌, Option, None, Some, Ok, Err, slice_get, filter_map, option_map, is_none}
 use Rattle.std.specs.List.{list_all}
 use Rattle.hem_base.specs.declared.ids.Kind.{Kind}
 use Rattle.hem_base.specs.declared.ids.Kind.TheVariants.{Root, Mid, Leaf}

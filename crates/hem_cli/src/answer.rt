@@ -66,11 +66,7 @@ fn reply_with(status: Status, text: String) -> Reply
 }
 
 /// The answer to a document whose tree and work are lawful.
-fn replayed(
-    alloc: Global,
-    document: &Document,
-    lawful: &Lawful,
-) -> Result<Reply, OutOfMemory>
+fn replayed(alloc: Global, document: &Document, lawful: &Lawful) -> Result<Reply, OutOfMemory>
     requires tree { lawful.now.tree ≡ tree_in document.now.setup }
     requires work { lawful.now.work ≡ work_in document.now.setup }
     requires lawful { IsSetUp document.now.setup }

@@ -3,10 +3,9 @@
 ghost use Rattle.std.specs.Prelude.{◌≡◌, IfOk, string_bytes};
 ghost use Rattle.hem_cli.specs.Texts.{cause_text, rule_text, fault_text, setup_text};
 
-use hem_text::{Cause, Place};
 use hem_base::OutOfMemory;
-use hem_tree::{SetupFault, SetupCause};
-use hem_text::TextFault;
+use hem_text::{Cause, Place, TextFault};
+use hem_tree::{SetupCause, SetupFault};
 use std::alloc::Global;
 
 /// Why a token can't stand.

@@ -1,7 +1,6 @@
 -- What the tokens of a written-out protocol say: how each is spelled, the limits, the rules on repetition, and the protocol.
 use Rattle.std.specs.Prelude.{ℕ, ◌==◌, ◌&&◌, ◌||◌, Bool, true, false, not, List, [], ◌∷◌, ◌++◌, length, Option, Some, None, unwrap_or, option_map, nat_lt, nat_le, bit_or, codes, if◌then◌else◌}
-use Rattle.std.specs.List.{list_any, list_all}
-use Rattle.std.specs.Str.{bytes_eq}
+use Rattle.std.specs.List.{list_any}
 use Rattle.hem_text.specs.Lexemes.{Lexeme}
 use Rattle.hem_base.specs.declared.words.Reserved.{Reserved}
 use Rattle.hem_base.specs.declared.words.Reserved.TheVariants as word
@@ -13,7 +12,6 @@ use Rattle.hem_base.specs.declared.ids.MsgId.{MsgId}
 use Rattle.hem_base.specs.declared.ids.RuleId.{RuleId}
 use Rattle.hem_text.specs.Grammars.{Grammar}
 use Rattle.hem_base.specs.Sets.{has_bit}
-use Rattle.hem_base.specs.Words.{word_bytes, sign_bytes}
 use Rattle.hem_text.specs.Spelling.{is_word, is_the_word, is_the_sign, is_zero, is_name}
 use Rattle.hem_syntax.specs.declared.rule.Class.{Class}
 use Rattle.hem_syntax.specs.declared.rule.Class.TheVariants as class

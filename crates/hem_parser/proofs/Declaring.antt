@@ -151,31 +151,32 @@ declared e h =
 pub has : (e : Read) (text : Text) → 2 ≤ length e.statuses → nat_lt (status e text).0 (length e.statuses) ≡ true
 has e text some = place_within (λ n. bytes_eq n text) e.statuses (omega (arith, some))
 
+-- the fields of the kind that is being read are others
+with_fields : (κ : Kind) (e : Read) (fs : List (Text × Status8)) → Holds (opening κ) e → length fs ≤ 3 → Names (map (λ f. f.0) fs) → list_all (λ f. nat_lt f.1.0 (length e.statuses)) fs ≡ true → Holds (opening κ) (record e { fields = fs })
+with_fields κ e fs h few names starts = (
+  record {
+    declared = h.0.declared;
+    rule_names = h.0.rule_names;
+    root = h.0.root;
+    mid = h.0.mid;
+    now = record { few_fields = few; names = names; starts = starts; few_rules = h.0.now.few_rules; rules = rw h.2 refl; rules_once = h.0.now.rules_once };
+    finished = h.0.finished;
+    dir = h.0.dir;
+  },
+  h.1,
+  h.2,
+)
+
 -- a field
 pub field_read : (κ : Kind) → Mk (the.Part part.NewField) (opening κ) (opening κ)
 field_read κ e t h spelled fresh within =
     let short = both (is_short t.text) (nat_lt (length e.fields) 3) within in
     let absent = any_map (λ n. bytes_eq n t.text) (λ f. f.0) e.fields ∙ is_not (is_among e.fields t.text) fresh in
-    let first : nat_lt 0 (length e.statuses) ≡ true = is_under 0 (length e.statuses) (omega (arith, h.0.declared.some)) in (
-      record {
-        declared = h.0.declared;
-        rule_names = h.0.rule_names;
-        root = h.0.root;
-        mid = h.0.mid;
-        now = record {
-          few_fields = omega (arith, under (length e.fields) 3 short.1, length_more e.fields (t.text, first_status));
-          names = subst Names (sym (map_more (λ f. f.0) e.fields (t.text, first_status))) (names_more (map (λ f. f.0) e.fields) t.text h.0.now.names (declarable t spelled short.0) absent);
-          starts = all_more (λ f. nat_lt f.1.0 (length e.statuses)) e.fields (t.text, first_status) h.0.now.starts first;
-          few_rules = h.0.now.few_rules;
-          rules = rw h.2 refl;
-          rules_once = h.0.now.rules_once;
-        };
-        finished = h.0.finished;
-        dir = h.0.dir;
-      },
-      h.1,
-      h.2,
-    )
+    let first : nat_lt 0 (length e.statuses) ≡ true = is_under 0 (length e.statuses) (omega (arith, h.0.declared.some)) in
+    let one : Text × Status8 = (t.text, first_status) in
+    with_fields κ e (e.fields ++ one ∷ []) h (omega (arith, under (length e.fields) 3 short.1, length_more e.fields one))
+    (subst Names (sym (map_more (λ f. f.0) e.fields one)) (names_more (map (λ f. f.0) e.fields) t.text h.0.now.names (declarable t spelled short.0) absent))
+    (all_more (λ f. nat_lt f.1.0 (length e.statuses)) e.fields one h.0.now.starts first)
 
 starts_last : (n : ℕ) (fs : List (Text × Status8)) (s : Status8) → nat_lt s.0 n ≡ true → list_all (λ f. nat_lt f.1.0 n) fs ≡ true → list_all (λ f. nat_lt f.1.0 n) (with_last fs s) ≡ true
 starts_last n fs s one all =
@@ -184,26 +185,9 @@ starts_last n fs s one all =
 
 pub start_read : (κ : Kind) → Mk (the.Part part.FieldStart) (opening κ) (opening κ)
 start_read κ e t h spelled fresh within =
-    let alike = last_alike e.fields (status e t.text) in (
-      record {
-        declared = h.0.declared;
-        rule_names = h.0.rule_names;
-        root = h.0.root;
-        mid = h.0.mid;
-        now = record {
-          few_fields = subst (λ n. n ≤ 3) (sym alike.long) h.0.now.few_fields;
-          names = subst Names (sym alike.names) h.0.now.names;
-          starts = starts_last (length e.statuses) e.fields (status e t.text) (has e t.text h.0.declared.some) h.0.now.starts;
-          few_rules = h.0.now.few_rules;
-          rules = rw h.2 refl;
-          rules_once = h.0.now.rules_once;
-        };
-        finished = h.0.finished;
-        dir = h.0.dir;
-      },
-      h.1,
-      h.2,
-    )
+    let alike = last_alike e.fields (status e t.text) in
+    with_fields κ e (with_last e.fields (status e t.text)) h (subst (λ n. n ≤ 3) (sym alike.long) h.0.now.few_fields) (subst Names (sym alike.names) h.0.now.names)
+    (starts_last (length e.statuses) e.fields (status e t.text) (has e t.text h.0.declared.some) h.0.now.starts)
 
 -- the fields are all there
 pub opened_all : (κ : Kind) → Weaker grammar Holds (opening κ) (between κ false)

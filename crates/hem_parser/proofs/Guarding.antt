@@ -18,14 +18,13 @@ use Rattle.hem_grammar.specs.declared.terminals.Terminal.TheVariants as the
 use Rattle.hem_grammar.specs.declared.terminals.AtomPart.TheVariants as atom
 use Rattle.hem_grammar.specs.declared.terminals.AssignPart.TheVariants as assign
 use Rattle.hem_grammar.specs.declared.terminals.SendPart.TheVariants as send
-use Rattle.hem_syntax.specs.Protocol.{Text}
 use Rattle.hem_syntax.specs.Lawful.{Counts, has_status, has_message, has_field, has_set, has_atom, has_assign, has_send, set_once}
 use Rattle.hem_syntax.specs.Names.{set_last, last_or}
-use Rattle.hem_grammar.specs.Draft.{Read, is_among, is_field, field, message, status, no_atom, no_status, no_message, first_status, atom_with, assign_with, send_with_status, send_with_message, send_with_value, sets_field, sets_val, sets_me, sets_targets}
+use Rattle.hem_grammar.specs.Draft.{Read, and_atom, is_among, is_field, field, message, status, no_atom, no_status, no_message, first_status, atom_with, assign_with, send_with_status, send_with_message, send_with_value, sets_field, sets_val, sets_me, sets_targets}
 use Rattle.hem_text.specs.Spelling.{is_word}
 use Rattle.hem_parser.proofs.Lists.{both, is_not, by_set, set_said, length_more, all_more, all_less, place_within, some_of, under, is_under}
 use Rattle.hem_parser.proofs.Setting.{first_set, more_set, more_atom, set_more, set_again, alike_field, alike_val, alike_me, alike_targets, alike_with}
-use Rattle.hem_parser.proofs.Claims.{inside, whole, speaking, asking, testing, valuing, choosing, sending, Guard, Open, Sets, Valued, counts}
+use Rattle.hem_parser.proofs.Claims.{Holds, inside, whole, speaking, asking, testing, valuing, choosing, sending, Guard, Open, Sets, Valued, counts}
 use Rattle.hem_parser.proofs.Declaring.{Mk, has}
 use Rattle.hem_parser.proofs.Ruling.{has_it}
 
@@ -102,49 +101,26 @@ module _ (κ : Kind) (d : Bool) where
   pub comma_read : Mk (the.Atom atom.Comma) (inside κ d whole) (inside κ d whole)
   comma_read e t h spelled fresh within = h
 
+  -- a condition is to come
+  spoken : (e : Read) → Holds (inside κ d whole) e → nat_lt (length e.rule.guard) 16 ≡ true → Holds (inside κ d speaking) e
+  spoken e h within = (h.0, h.1, record { take = h.2.take; guard = (h.2.guard, under (length e.rule.guard) 16 within); sets = h.2.sets; send = h.2.send })
+
+  -- a condition that wants its first status
+  tested : (e : Read) (a : Atom) → Holds (inside κ d speaking) e → ((s : Status8) → has_status (counts e) s ≡ true → has_atom (counts e) (atom_with a s) ≡ true) → Holds (inside κ d testing) (record e { rule = and_atom e.rule a })
+  tested e a h any = (h.0, h.1, record { take = h.2.take; guard = (open_more (counts e) e.rule.guard a h.2.guard.0 h.2.guard.1, record { with_any = any }); sets = h.2.sets; send = h.2.send })
+
   pub atom_field_read : Mk (the.Atom atom.Field) (inside κ d whole) (inside κ d testing)
-  atom_field_read e t h spelled fresh within = (
-    h.0,
-    h.1,
-    record {
-      take = h.2.take;
-      guard = (
-        open_more (counts e) e.rule.guard (condition.Field (field e t.text) no_status) h.2.guard (under (length e.rule.guard) 16 within),
-        record { with_any = λ s declared. rw (has_one e t spelled, first_set (counts e) s h.0.declared.few declared) refl },
-      );
-      sets = h.2.sets;
-      send = h.2.send;
-    },
-  )
+  atom_field_read e t h spelled fresh within =
+      tested e (condition.Field (field e t.text) no_status) (spoken e h within) (λ s declared. rw (has_one e t spelled, first_set (counts e) s h.0.declared.few declared) refl)
 
   pub atom_me_read : Mk (the.Atom atom.Me) (inside κ d whole) (inside κ d testing)
-  atom_me_read e t h spelled fresh within = (
-    h.0,
-    h.1,
-    record {
-      take = h.2.take;
-      guard = (
-        open_more (counts e) e.rule.guard (condition.Me no_status) h.2.guard (under (length e.rule.guard) 16 within),
-        record { with_any = λ s declared. first_set (counts e) s h.0.declared.few declared },
-      );
-      sets = h.2.sets;
-      send = h.2.send;
-    },
-  )
+  atom_me_read e t h spelled fresh within = tested e (condition.Me no_status) (spoken e h within) (λ s declared. first_set (counts e) s h.0.declared.few declared)
 
   pub atom_kids_read : Mk (the.Atom atom.Kids) (inside κ d whole) (inside κ d speaking)
-  atom_kids_read e t h spelled fresh within = (
-    h.0,
-    h.1,
-    record { take = h.2.take; guard = (h.2.guard, under (length e.rule.guard) 16 within); sets = h.2.sets; send = h.2.send },
-  )
+  atom_kids_read e t h spelled fresh within = spoken e h within
 
   pub atom_others_read : Mk (the.Atom atom.Others) (inside κ d whole) (inside κ d speaking)
-  atom_others_read e t h spelled fresh within = (
-    h.0,
-    h.1,
-    record { take = h.2.take; guard = (h.2.guard, under (length e.rule.guard) 16 within); sets = h.2.sets; send = h.2.send },
-  )
+  atom_others_read e t h spelled fresh within = spoken e h within
 
   pub asked_read : Mk (the.Atom atom.Asked) (inside κ d whole) (inside κ d asking)
   asked_read e t h spelled fresh within = (
@@ -159,52 +135,16 @@ module _ (κ : Kind) (d : Bool) where
   )
 
   pub kids_all_read : Mk (the.Atom atom.KidsAll) (inside κ d speaking) (inside κ d testing)
-  kids_all_read e t h spelled fresh within = (
-    h.0,
-    h.1,
-    record {
-      take = h.2.take;
-      guard = (open_more (counts e) e.rule.guard (condition.KidsAll no_status) h.2.guard.0 h.2.guard.1, record { with_any = λ s declared. first_set (counts e) s h.0.declared.few declared });
-      sets = h.2.sets;
-      send = h.2.send;
-    },
-  )
+  kids_all_read e t h spelled fresh within = tested e (condition.KidsAll no_status) h (λ s declared. first_set (counts e) s h.0.declared.few declared)
 
   pub kids_any_read : Mk (the.Atom atom.KidsAny) (inside κ d speaking) (inside κ d testing)
-  kids_any_read e t h spelled fresh within = (
-    h.0,
-    h.1,
-    record {
-      take = h.2.take;
-      guard = (open_more (counts e) e.rule.guard (condition.KidsAny no_status) h.2.guard.0 h.2.guard.1, record { with_any = λ s declared. first_set (counts e) s h.0.declared.few declared });
-      sets = h.2.sets;
-      send = h.2.send;
-    },
-  )
+  kids_any_read e t h spelled fresh within = tested e (condition.KidsAny no_status) h (λ s declared. first_set (counts e) s h.0.declared.few declared)
 
   pub others_all_read : Mk (the.Atom atom.OthersAll) (inside κ d speaking) (inside κ d testing)
-  others_all_read e t h spelled fresh within = (
-    h.0,
-    h.1,
-    record {
-      take = h.2.take;
-      guard = (open_more (counts e) e.rule.guard (condition.OthersAll no_status) h.2.guard.0 h.2.guard.1, record { with_any = λ s declared. first_set (counts e) s h.0.declared.few declared });
-      sets = h.2.sets;
-      send = h.2.send;
-    },
-  )
+  others_all_read e t h spelled fresh within = tested e (condition.OthersAll no_status) h (λ s declared. first_set (counts e) s h.0.declared.few declared)
 
   pub others_any_read : Mk (the.Atom atom.OthersAny) (inside κ d speaking) (inside κ d testing)
-  others_any_read e t h spelled fresh within = (
-    h.0,
-    h.1,
-    record {
-      take = h.2.take;
-      guard = (open_more (counts e) e.rule.guard (condition.OthersAny no_status) h.2.guard.0 h.2.guard.1, record { with_any = λ s declared. first_set (counts e) s h.0.declared.few declared });
-      sets = h.2.sets;
-      send = h.2.send;
-    },
-  )
+  others_any_read e t h spelled fresh within = tested e (condition.OthersAny no_status) h (λ s declared. first_set (counts e) s h.0.declared.few declared)
 
   pub atom_status_read : Mk (the.Atom atom.Status) (inside κ d testing) (inside κ d whole)
   atom_status_read e t h spelled fresh within = (

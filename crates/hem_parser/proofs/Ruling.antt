@@ -13,7 +13,6 @@ use Rattle.hem_syntax.specs.declared.rule.Origin.{Origin}
 use Rattle.hem_syntax.specs.declared.rule.Rule.{Rule}
 use Rattle.hem_grammar.specs.declared.terminals.Terminal.TheVariants as the
 use Rattle.hem_grammar.specs.declared.terminals.RulePart.TheVariants as rule
-use Rattle.hem_syntax.specs.Protocol.{Text}
 use Rattle.hem_syntax.specs.Lawful.{Counts, has_message, has_take, has_send, is_rule, names_after}
 use Rattle.hem_grammar.specs.Draft.{Read, is_among, is_message, message, take_with, rule_id}
 use Rattle.hem_text.specs.Spelling.{is_word}

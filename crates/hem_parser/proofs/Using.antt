@@ -1,5 +1,5 @@
 -- What the reader of protocols answers where a protocol is named, and where it is written out.
-use Rattle.std.proofs.Common.{◌≡◌, ◌≢◌, ℕ, zero, suc, ◌+◌, true, false, IsTrue, List, [], ◌∷◌, drop, refl, sym, ap, subst, ◌∙◌, Option, Some, None}
+use Rattle.std.proofs.Common.{◌≡◌, ◌≢◌, ℕ, true, false, IsTrue, List, [], drop, refl, sym, ap, subst, ◌∙◌, Option, Some, None}
 use Rattle.std.specs.Prelude.{slice_get, IfSome, IfOk, IfErr, Result, Ok, Err}
 use Rattle.std.proofs.lemmas.List.{drop-drop}
 use Rattle.hem_text.specs.Lexemes.{Lexeme}

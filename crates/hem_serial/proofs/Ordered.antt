@@ -19,10 +19,10 @@ use Rattle.hem_law.proofs.Precedence.{precedence-ranks}
 use Rattle.hem_law.proofs.Reordered.{entries-inside}
 use Rattle.hem_numbered.proofs.NormalRows.{normal_rows as rows_by_number}
 use Rattle.hem_orderly.proofs.Orderly.{history_normal, history_serial}
-use Rattle.hem_together.specs.Together.{StandTogether, StandThrice, HangTogether}
+use Rattle.hem_together.specs.Together.{StandTogether, StandAtMostThrice, AreConnected}
 use Rattle.hem_together.specs.HaveRoles.{GoOneWay}
 use Rattle.hem_together.proofs.OneWay.{one_way}
-use Rattle.hem_together.proofs.Joined.{stand_together, hang_together, stand_thrice}
+use Rattle.hem_together.proofs.Joined.{stand_together, are_connected, stand_thrice}
 use Rattle.hem_check.proofs.Clauses.{templated, stable}
 use Rattle.hem_serial.specs.Histories.{IsHistory, entries, printed_blocks, normal_entries, normal_order, normal_rows}
 
@@ -53,11 +53,11 @@ normal_same p tree work h s it =
 pub together : (p : Protocol) (tree : Tree) (work : Work) (h : List Firing) (s : State) (l : ℕ) → IsHistory p tree work h s → StandTogether (normal_rows p tree work h l)
 together p tree work h s l it = stand_together p tree work h s s it.protocol it.lawful (templated p it.disciplined) it.runs (runs_normally p tree work h s it) l
 
-pub three : (p : Protocol) (tree : Tree) (work : Work) (h : List Firing) (s : State) (l : ℕ) → IsHistory p tree work h s → StandThrice (normal_rows p tree work h l)
+pub three : (p : Protocol) (tree : Tree) (work : Work) (h : List Firing) (s : State) (l : ℕ) → IsHistory p tree work h s → StandAtMostThrice (normal_rows p tree work h l)
 three p tree work h s l it = stand_thrice p tree work h s s it.protocol it.lawful (templated p it.disciplined) it.runs (runs_normally p tree work h s it) l
 
-pub connected : (p : Protocol) (tree : Tree) (work : Work) (h : List Firing) (s : State) (l : ℕ) → IsHistory p tree work h s → HangTogether tree (normal_rows p tree work h l)
-connected p tree work h s l it = hang_together p tree work h s s it.protocol it.lawful (templated p it.disciplined) it.runs (runs_normally p tree work h s it) l
+pub connected : (p : Protocol) (tree : Tree) (work : Work) (h : List Firing) (s : State) (l : ℕ) → IsHistory p tree work h s → AreConnected tree (normal_rows p tree work h l)
+connected p tree work h s l it = are_connected p tree work h s s it.protocol it.lawful (templated p it.disciplined) it.runs (runs_normally p tree work h s it) l
 
 pub edges_one_way : (p : Protocol) (tree : Tree) (work : Work) (h : List Firing) (s : State) → IsHistory p tree work h s → GoOneWay p tree (entries p tree work h)
 edges_one_way p tree work h s it = one_way p tree work h s it.protocol it.lawful (templated p it.disciplined) it.runs

@@ -11,7 +11,7 @@ ghost use Rattle.hem_system.specs.State.{State, Runs, start};
 ghost use Rattle.hem_trace.specs.Blocks.{IsSerial, SameFirings, firings_of};
 ghost use Rattle.hem_locks.specs.Edges.{AllLocksHold};
 ghost use Rattle.hem_law.specs.Orders.{stands_in, is_ahead, PrecedenceRanks};
-ghost use Rattle.hem_together.specs.Together.{StandTogether, StandThrice, HangTogether};
+ghost use Rattle.hem_together.specs.Together.{StandTogether, StandAtMostThrice, AreConnected};
 ghost use Rattle.hem_together.specs.HaveRoles.{GoOneWay};
 ghost use Rattle.hem_bound.specs.Starts.{starts};
 ghost use Rattle.hem_serial.specs.Histories.{IsHistory, ListsAreShort, entries, printed_blocks, normal_entries, normal_order, normal_rows};
@@ -34,8 +34,8 @@ pub fn locks_hold_throughout()
     ensures { (p : Protocol) (tree : Tree) (work : Work) (h : List Firing) (s : State) (n : ℕ) → IsHistory p tree work h s → (mid : State) × Runs p tree (start p tree work) (take n h) mid × AllLocksHold p tree mid }
 {}
 
-/// The normal order, in which each upward request stands right before the next firing of its transaction, has the same
-/// firings and runs to the same state.
+/// The normal order, in which each upward request before its transaction's anchor is moved to just before the anchor, has
+/// the same firings and runs to the same state.
 pub fn normal_orders_run_to_the_same_state()
     ensures runs { (p : Protocol) (tree : Tree) (work : Work) (h : List Firing) (s : State) → IsHistory p tree work h s → Runs p tree (start p tree work) (normal_order p tree work h) s }
     ensures same { (p : Protocol) (tree : Tree) (work : Work) (h : List Firing) (s : State) → IsHistory p tree work h s → SameFirings h (normal_order p tree work h) }
@@ -44,12 +44,12 @@ pub fn normal_orders_run_to_the_same_state()
 /// In the normal order the firings of a transaction at an object stand together, and are at most three.
 pub fn transactions_stand_together_at_each_object()
     ensures together { (p : Protocol) (tree : Tree) (work : Work) (h : List Firing) (s : State) (l : ℕ) → IsHistory p tree work h s → StandTogether (normal_rows p tree work h l) }
-    ensures three { (p : Protocol) (tree : Tree) (work : Work) (h : List Firing) (s : State) (l : ℕ) → IsHistory p tree work h s → StandThrice (normal_rows p tree work h l) }
+    ensures three { (p : Protocol) (tree : Tree) (work : Work) (h : List Firing) (s : State) (l : ℕ) → IsHistory p tree work h s → StandAtMostThrice (normal_rows p tree work h l) }
 {}
 
 /// A transaction's objects are connected in the tree: of two of them the later one's parent is one too.
 pub fn objects_of_transactions_are_connected()
-    ensures { (p : Protocol) (tree : Tree) (work : Work) (h : List Firing) (s : State) (l : ℕ) → IsHistory p tree work h s → HangTogether tree (normal_rows p tree work h l) }
+    ensures { (p : Protocol) (tree : Tree) (work : Work) (h : List Firing) (s : State) (l : ℕ) → IsHistory p tree work h s → AreConnected tree (normal_rows p tree work h l) }
 {}
 
 /// A transaction uses each edge in one way at most: at no object does it both send a request to the parent and take one of

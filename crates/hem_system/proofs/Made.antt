@@ -18,7 +18,6 @@ use Rattle.hem_fire.specs.Plans.{left_by}
 use Rattle.hem_tree.specs.Tree.{Tree}
 use Rattle.hem_system.specs.declared.cell.Cell.{Cell as Kept}
 use Rattle.hem_system.specs.State.{Cell, Line, Effect, map_each, local_at, reaches}
-use Rattle.hem_system.specs.Events.{Event}
 use Rattle.hem_system.specs.Cells.{seen, line_of}
 use Rattle.hem_system.specs.Lists.{lists_after, HasRoom, HaveRoom}
 use Rattle.hem_system.specs.Steps.{IsEnabled, IsFired, LineFires}

@@ -18,7 +18,7 @@ use Rattle.hem_fire.specs.OneFire.{Heads, can_fire, local_after, outs_of}
 use Rattle.hem_tree.specs.Tree.{Tree, kind_of}
 use Rattle.hem_system.specs.State.{Effect, map_each, taken_heads, is_own_child, place_of_me, rule_effect, own_effect}
 use Rattle.hem_fire.specs.View.{view_of}
-use Rattle.hem_system.specs.Steps.{kids_taken, heads_in, heads_taken}
+use Rattle.hem_system.specs.Steps.{heads_taken}
 
 -- an effect of its parts
 abbrev pub effect_with : Heads → Local → Outs → Effect

@@ -22,6 +22,7 @@ use hem_syntax::{Protocol, Rule};
 use hem_tree::Tree;
 
 /// Makes room in the list of one object that a firing reaches.
+#[inline(always)]
 fn make_room_at(cells: &mut List<Cell>, object: usize, to: To, at: Stand) -> Result<(), OutOfMemory>
     requires { object < length cells.old }
     ensures { IsRoomMade to at object cells.old cells.new (is_ok result) }
@@ -31,6 +32,7 @@ fn make_room_at(cells: &mut List<Cell>, object: usize, to: To, at: Stand) -> Res
 }
 
 /// The same of an object that may not be there.
+#[inline(always)]
 fn make_room_if_there(
     cells: &mut List<Cell>,
     object: usize,
@@ -85,6 +87,7 @@ fn make_room(cells: &mut List<Cell>, tree: &Tree, firing: Firing, to: To) -> Res
 }
 
 /// Takes and appends the messages of one object.
+#[inline(always)]
 fn change_at(cells: &mut List<Cell>, object: usize, firing: Firing, outs: &Outs, at: Stand)
     requires there { object < length cells.old }
     requires room { (cell : Kept) → slice_get cells.old object ≡ Some cell → HasRoom (reaches_at outs.now.to at) cell }
@@ -95,6 +98,7 @@ fn change_at(cells: &mut List<Cell>, object: usize, firing: Firing, outs: &Outs,
 }
 
 /// The same of an object that may not be there.
+#[inline(always)]
 fn change_if_there(cells: &mut List<Cell>, object: usize, firing: Firing, outs: &Outs, at: Stand)
     requires { (cell : Kept) → slice_get cells.old object ≡ Some cell → HasRoom (reaches_at outs.now.to at) cell }
     ensures changed { line_of cells.new ≡ change_one object (changed_at firing outs.now at) (line_of cells.old) }

@@ -59,6 +59,7 @@ impl Queue {
     }
 
     /// Makes room for one message more, where that is wanted. Where it takes too much memory nothing changes.
+    #[inline(always)]
     pub(crate) fn make_room(&mut self, wanted: bool) -> Result<(), OutOfMemory>
         ensures same { self.new.messages ≡ self.old.messages }
         ensures room { OnOk result (IsTrue (cond wanted self.new.room true)) }
@@ -70,6 +71,7 @@ impl Queue {
     }
 
     /// Takes the first message, where there is one, and keeps the room.
+    #[inline(never)]
     fn take(&mut self)
         ensures left { self.new.messages ≡ drop 1 self.old.messages }
         ensures room { self.old.room ≡ true → self.new.room ≡ true }
@@ -84,6 +86,7 @@ impl Queue {
     }
 
     /// Puts a message at the end.
+    #[inline(never)]
     fn push(&mut self, message: Message)
         requires { self.old.room ≡ true }
         ensures { self.new.messages ≡ self.old.messages ++ message ∷ [] }
@@ -93,6 +96,7 @@ impl Queue {
     }
 
     /// Takes the first message where that is wanted, and then puts one at the end where that is wanted.
+    #[inline(always)]
     pub(crate) fn change(&mut self, takes: bool, sends: bool, message: Message)
         requires { IsTrue (cond sends self.old.room true) }
         ensures { self.new.messages ≡ drop (cond takes 1 0) self.old.messages ++ cond sends (message ∷ []) [] }

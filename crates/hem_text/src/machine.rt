@@ -3,7 +3,7 @@
 ghost use Rattle.std.specs.Prelude.{◌≡◌, ◌<◌, ◌≤◌, length, drop, find, Some, OnOk, IfErr, IfSome, IsTrue};
 ghost use Rattle.std.specs.List.{list_any, list_all};
 ghost use Rattle.std.specs.Option.{option_map};
-ghost use Rattle.hem_text.specs.Grammars.{Grammar, state, heads, can_pass, comes_again, way_into, way_at, full, next, standing, is_used, is_plain, lost_cause};
+ghost use Rattle.hem_text.specs.Grammars.{state, heads, can_pass, comes_again, way_into, way_at, full, next, standing, is_used, is_plain, lost_cause};
 ghost use Rattle.hem_text.specs.Refused.{IsRefused};
 ghost use Rattle.hem_text.specs.declared.machine.Refusal.TheVariants.{OutOfMemory as Memory};
 

@@ -1,6 +1,6 @@
 //! What is still to come.
 
-ghost use Rattle.std.specs.Prelude.{◌≡◌, ◌<◌, ◌≤◌, [], ◌∷◌, ◌++◌, length, drop, slice_get, OnOk, Some, IsTrue, ◌↔◌};
+ghost use Rattle.std.specs.Prelude.{◌≡◌, ◌<◌, ◌≤◌, [], ◌++◌, length, drop, slice_get, OnOk, Some, IsTrue, ◌↔◌};
 
 use crate::Symbol;
 use hem_base::OutOfMemory;

@@ -1,12 +1,10 @@
 -- Whole downward blocks of an object: what it does for its parent while its own request is pending.
-use Rattle.std.specs.Prelude.{ℕ, ◌==◌, Bool, true, false, cond, List, [], ◌∷◌, Option, None, Some, filter_map, Result, Ok, Err, option_and_then}
+use Rattle.std.specs.Prelude.{ℕ, ◌==◌, Bool, true, false, cond, List, [], ◌∷◌, None, filter_map}
 use Rattle.hem_base.specs.declared.ids.Firing.{Firing}
-use Rattle.hem_template.specs.declared.clause.Clause.{Clause}
 use Rattle.hem_template.specs.declared.template_name.TemplateName.{TemplateName}
 use Rattle.hem_template.specs.declared.template_name.TemplateName.TheVariants.{ImmUp, RqDownDown, RsUpUp}
-use Rattle.hem_syntax.specs.Protocol.{Protocol, rule_named}
-use Rattle.hem_template.specs.Template.{template_of}
-use Rattle.hem_tree.specs.Tree.{Tree, kind_of}
+use Rattle.hem_syntax.specs.Protocol.{Protocol}
+use Rattle.hem_tree.specs.Tree.{Tree}
 use Rattle.hem_trace.specs.Templates.{template_at}
 
 -- the templates that an object fires, in order

@@ -1,4 +1,3 @@
-use Rattle.std.proofs.Common.{◌∙◌}
 use Rattle.hem_system.proofs.Rooms.{room_all, on_ok}
 use Rattle.hem_system.proofs.firing.make_room.Goals as goal
 

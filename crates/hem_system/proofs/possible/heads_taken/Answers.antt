@@ -1,4 +1,3 @@
-use Rattle.std.proofs.Common.{◌∙◌}
 use Rattle.hem_system.proofs.Effects.{kid_heads, heads-are}
 use Rattle.hem_system.specs.Cells.{line_of}
 use Rattle.hem_system.proofs.possible.heads_taken.Goals as goal
