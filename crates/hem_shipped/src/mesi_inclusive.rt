@@ -1,6 +1,6 @@
 //! Inclusive MESI.
 
-ghost use Rattle.std.specs.Prelude.{◌≡◌};
+ghost use Rattle.std.specs.Prelude.{◌≡◌, ◌<◌, length};
 ghost use Rattle.hem_shipped.specs.Texts.{text_of_lines};
 ghost use Rattle.hem_shipped.specs.MesiInclusive.{mesi_inclusive_lines};
 
@@ -88,7 +88,8 @@ end
 /// The text as it is promised.
 #[tactic(auto, unfolding(crate::specs::Texts::text_of_lines, crate::specs::MesiInclusive::mesi_inclusive_lines))]
 pub fn text() -> &'static str
-    ensures { result.now ≡ text_of_lines mesi_inclusive_lines }
+    ensures same { result.now ≡ text_of_lines mesi_inclusive_lines }
+    ensures short { length result.now < 65536 }
 {
     MESI_INCLUSIVE
 }

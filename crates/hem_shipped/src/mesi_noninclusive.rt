@@ -1,6 +1,6 @@
 //! Non-inclusive MESI.
 
-ghost use Rattle.std.specs.Prelude.{◌≡◌};
+ghost use Rattle.std.specs.Prelude.{◌≡◌, ◌<◌, length};
 ghost use Rattle.hem_shipped.specs.Texts.{text_of_lines};
 ghost use Rattle.hem_shipped.specs.MesiNoninclusive.{mesi_noninclusive_lines};
 
@@ -99,7 +99,8 @@ end
 /// The text as it is promised.
 #[tactic(auto, unfolding(crate::specs::Texts::text_of_lines, crate::specs::MesiNoninclusive::mesi_noninclusive_lines))]
 pub fn text() -> &'static str
-    ensures { result.now ≡ text_of_lines mesi_noninclusive_lines }
+    ensures same { result.now ≡ text_of_lines mesi_noninclusive_lines }
+    ensures short { length result.now < 65536 }
 {
     MESI_NONINCLUSIVE
 }

@@ -1,6 +1,6 @@
 //! Inclusive MSI.
 
-ghost use Rattle.std.specs.Prelude.{◌≡◌};
+ghost use Rattle.std.specs.Prelude.{◌≡◌, ◌<◌, length};
 ghost use Rattle.hem_shipped.specs.Texts.{text_of_lines};
 ghost use Rattle.hem_shipped.specs.MsiInclusive.{msi_inclusive_lines};
 
@@ -81,7 +81,8 @@ end
 /// The text as it is promised.
 #[tactic(auto, unfolding(crate::specs::Texts::text_of_lines, crate::specs::MsiInclusive::msi_inclusive_lines))]
 pub fn text() -> &'static str
-    ensures { result.now ≡ text_of_lines msi_inclusive_lines }
+    ensures same { result.now ≡ text_of_lines msi_inclusive_lines }
+    ensures short { length result.now < 65536 }
 {
     MSI_INCLUSIVE
 }
