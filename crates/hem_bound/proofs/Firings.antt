@@ -28,7 +28,7 @@ use Rattle.hem_template.specs.declared.row.Sending.TheVariants.{NothingSent, ToR
 use Rattle.hem_fire.specs.declared.outs.To.{To}
 use Rattle.hem_fire.specs.declared.outs.To.TheVariants as to
 use Rattle.hem_fire.specs.View.{kid_asker}
-use Rattle.hem_tree.specs.Tree.{Tree, IsLawful}
+use Rattle.hem_tree.specs.Tree.{Tree, IsTree}
 use Rattle.hem_tree.proofs.Early.{lawful_early}
 use Rattle.hem_system.specs.State.{Line, Effect, effect_of, line_after, place_of_me}
 use Rattle.hem_rows.specs.Rows.{IsTaking, AllHaveTemplates}
@@ -52,7 +52,7 @@ use Rattle.hem_bound.proofs.Moved.{up_taken, down_taken, up_sent, down_sent, loc
 use Rattle.hem_bound.proofs.Taken.{up_taken-is, down_taken-is, request_higher, request_heavy, lock_total, up_sent-is, down_sent-is}
 
 -- the requester's subtree is smaller than the object's
-fits_asked : (tree : Tree) (o : ℕ) (asked : Option By) → IsLawful tree → o < length tree → asked_size tree o asked + 1 ≤ size_of tree o
+fits_asked : (tree : Tree) (o : ℕ) (asked : Option By) → IsTree tree → o < length tree → asked_size tree o asked + 1 ≤ size_of tree o
 fits_asked tree o asked lawful inside = by_asked asked
   where
     some : 1 ≤ size_of tree o
@@ -66,7 +66,7 @@ fits_asked tree o asked lawful inside = by_asked asked
     by_asked (Some Own) = some
 
 -- so are the targets'
-fits_target : (tree : Tree) (o : ℕ) (t : To) → IsLawful tree → o < length tree → targets_size tree o t + 1 ≤ size_of tree o
+fits_target : (tree : Tree) (o : ℕ) (t : To) → IsTree tree → o < length tree → targets_size tree o t + 1 ≤ size_of tree o
 fits_target tree o t lawful inside = by_way t
   where
     some : 1 ≤ size_of tree o
@@ -81,7 +81,7 @@ fits_target tree o t lawful inside = by_way t
     by_way (to.Kids set) = sizes_fit tree (lawful_early tree lawful) o (has_bit set.0) inside
 
 -- and so are the requester's and the targets' together, where the requester isn't among them
-fit_both : (p : Protocol) (tree : Tree) (o : ℕ) (kind : Kind) (sending : Sending) (asked : Option By) (targets : KidSet) (e : Effect) → IsLawful tree → o < length tree → IsSent p kind sending asked targets e.outs → FitBoth sending (asked_size tree o asked) (targets_size tree o e.outs.to) (size_of tree o)
+fit_both : (p : Protocol) (tree : Tree) (o : ℕ) (kind : Kind) (sending : Sending) (asked : Option By) (targets : KidSet) (e : Effect) → IsTree tree → o < length tree → IsSent p kind sending asked targets e.outs → FitBoth sending (asked_size tree o asked) (targets_size tree o e.outs.to) (size_of tree o)
 fit_both p tree o kind NothingSent asked targets e lawful inside sent = tt
 fit_both p tree o kind ToRequester asked targets e lawful inside sent = tt
 fit_both p tree o kind RequestUp asked targets e lawful inside sent = tt
@@ -156,7 +156,7 @@ start_is p tree line f e it =
     ap (λ (rule : Option Rule). option_map_or (λ rule. takes_nothing rule.take) rule false || option_map_or (λ rule. takes_request rule.take f.me) rule false) (rule_is p tree line f e it)
     ∙ starts-taking p (row_of it.template).taking it.rule f.me (of_row p it.kind it.rule it.template it.has_template).taking
 
-module _ (p : Protocol) (tree : Tree) (line : Line) (f : Firing) (e : Effect) (lawful : IsLawful tree) (it : IsActed p tree line f e) where
+module _ (p : Protocol) (tree : Tree) (line : Line) (f : Firing) (e : Effect) (lawful : IsTree tree) (it : IsActed p tree line f e) where
   abbrev o : ℕ
   o = f.object.0
 
@@ -208,15 +208,15 @@ module _ (p : Protocol) (tree : Tree) (line : Line) (f : Firing) (e : Effect) (l
   acted_changes size = record { template = it.template; of = has_template it; local = it.local; there = it.there; change = omega (arith, change_is, line_moved_whole p tree line f e it size) }
 
 -- the potential of a line after a firing
-pub potential_after : (p : Protocol) (tree : Tree) (line : Line) (f : Firing) (e : Effect) → IsLawful tree → AllHaveTemplates p → effect_of p tree line f ≡ Some e → potential tree (line_after tree f e line) + 1 ≤ potential tree line + cond (is_start p tree f) (3 * length tree) 0
+pub potential_after : (p : Protocol) (tree : Tree) (line : Line) (f : Firing) (e : Effect) → IsTree tree → AllHaveTemplates p → effect_of p tree line f ≡ Some e → potential tree (line_after tree f e line) + 1 ≤ potential tree line + cond (is_start p tree f) (3 * length tree) 0
 potential_after p tree line f e lawful templates possible = acted_after p tree line f e lawful (acted p tree line f e templates possible)
 
 -- a firing changes the potential as its template says
-pub changes : (p : Protocol) (tree : Tree) (line : Line) (f : Firing) (e : Effect) → IsLawful tree → AllHaveTemplates p → length line ≡ length tree → effect_of p tree line f ≡ Some e → Changes p tree line f e
+pub changes : (p : Protocol) (tree : Tree) (line : Line) (f : Firing) (e : Effect) → IsTree tree → AllHaveTemplates p → length line ≡ length tree → effect_of p tree line f ≡ Some e → Changes p tree line f e
 changes p tree line f e lawful templates size possible = acted_changes p tree line f e lawful (acted p tree line f e templates possible) size
 
 -- so a firing with which no transaction starts lowers it
-pub falls : (p : Protocol) (tree : Tree) (line : Line) (f : Firing) (e : Effect) → IsLawful tree → AllHaveTemplates p → effect_of p tree line f ≡ Some e → is_start p tree f ≡ false → potential tree (line_after tree f e line) < potential tree line
+pub falls : (p : Protocol) (tree : Tree) (line : Line) (f : Firing) (e : Effect) → IsTree tree → AllHaveTemplates p → effect_of p tree line f ≡ Some e → is_start p tree f ≡ false → potential tree (line_after tree f e line) < potential tree line
 falls p tree line f e lawful templates possible other =
     let none : cond (is_start p tree f) (3 * length tree) 0 ≡ 0 = ap (λ b. cond b (3 * length tree) 0) other in
     omega (arith, none, potential_after p tree line f e lawful templates possible)
@@ -226,5 +226,5 @@ pub if_at_most : (b : Bool) (x : ℕ) → cond b x 0 ≤ x
 if_at_most true x = omega arith
 if_at_most false x = omega arith
 
-pub rises : (p : Protocol) (tree : Tree) (line : Line) (f : Firing) (e : Effect) → IsLawful tree → AllHaveTemplates p → effect_of p tree line f ≡ Some e → potential tree (line_after tree f e line) < potential tree line + 3 * length tree
+pub rises : (p : Protocol) (tree : Tree) (line : Line) (f : Firing) (e : Effect) → IsTree tree → AllHaveTemplates p → effect_of p tree line f ≡ Some e → potential tree (line_after tree f e line) < potential tree line + 3 * length tree
 rises p tree line f e lawful templates possible = omega (arith, potential_after p tree line f e lawful templates possible, if_at_most (is_start p tree f) (3 * length tree))

@@ -20,7 +20,7 @@ use Rattle.hem_template.specs.declared.row.Sending.TheVariants.{NothingSent, ToR
 use Rattle.hem_fire.specs.declared.outs.To.{To}
 use Rattle.hem_fire.specs.declared.outs.To.TheVariants as to
 use Rattle.hem_fire.specs.Sends.{to_requester}
-use Rattle.hem_tree.specs.Tree.{Tree, IsLawful, parent_of, is_child, place_among}
+use Rattle.hem_tree.specs.Tree.{Tree, IsTree, parent_of, is_child, place_among}
 use Rattle.hem_system.specs.declared.lane.Lane.TheVariants.{UpRequests, Down}
 use Rattle.hem_system.specs.State.{Effect, takes, reaches, is_own_child}
 use Rattle.hem_system.proofs.Takers.{parent_is}
@@ -98,10 +98,10 @@ request_least : (tree : Tree) (o : ℕ) (me : Option ObjectId) (least : ℕ) →
 request_least tree o None least own weighs = omega arith
 request_least tree o (Some child) least own weighs = weighs child.0 (parent_is tree child.0 o own)
 
-pub request_higher : (tree : Tree) (o : ℕ) (me : Option ObjectId) → IsLawful tree → is_own_child tree o me ≡ true → cond (is_some me) (up_weight tree o + 1) 0 ≤ request_weight tree me
+pub request_higher : (tree : Tree) (o : ℕ) (me : Option ObjectId) → IsTree tree → is_own_child tree o me ≡ true → cond (is_some me) (up_weight tree o + 1) 0 ≤ request_weight tree me
 request_higher tree o me lawful own = request_least tree o me (up_weight tree o + 1) own (λ k parent. let is = weight_step tree k o lawful parent in omega (arith, is))
 
-pub request_heavy : (tree : Tree) (o : ℕ) (me : Option ObjectId) → IsLawful tree → is_own_child tree o me ≡ true → cond (is_some me) (2 * length tree) 0 ≤ request_weight tree me
+pub request_heavy : (tree : Tree) (o : ℕ) (me : Option ObjectId) → IsTree tree → is_own_child tree o me ≡ true → cond (is_some me) (2 * length tree) 0 ≤ request_weight tree me
 request_heavy tree o me lawful own = request_least tree o me (2 * length tree) own (λ k parent. weight_least tree k o lawful parent)
 
 -- the downlock of the object that fires

@@ -7,7 +7,7 @@ use Rattle.hem_base.specs.declared.ids.Kind.TheVariants.{Root, Mid, Leaf}
 use Rattle.hem_syntax.specs.Lawful.{IsProtocol, IsPart}
 use Rattle.hem_syntax.specs.Protocol.{Protocol, part}
 use Rattle.hem_check.specs.Discipline.{meets_all, IsDisciplined}
-use Rattle.hem_tree.specs.Tree.{IsLawful}
+use Rattle.hem_tree.specs.Tree.{IsTree}
 use Rattle.hem_system.specs.State.{run}
 use Rattle.hem_trace.specs.Blocks.{IsSerial, SameFirings, firings_of}
 use Rattle.hem_serial.specs.Histories.{IsHistory, printed_blocks}
@@ -57,9 +57,9 @@ pub msi_is : IsAccepted msi
 msi_is = record { protocol = protocol; disciplined = whole msi refl refl refl }
 
 -- a worked history goes through the theorem
-pub through : (x : Example) → IsLawful x.tree → run msi x.tree (start_of msi x) x.history ≡ Some x.end → printed_blocks msi x.tree x.work x.history ≡ x.blocks → GoesThrough x
+pub through : (x : Example) → IsTree x.tree → run msi x.tree (start_of msi x) x.history ≡ Some x.end → printed_blocks msi x.tree x.work x.history ≡ x.blocks → GoesThrough x
 through x lawful runs printed =
-    let premises : IsHistory msi x.tree x.work x.history x.end = record { protocol = msi_is.protocol; disciplined = msi_is.disciplined; lawful = lawful; runs = record { leads = runs } } in
+    let premises : IsHistory msi x.tree x.work x.history x.end = record { protocol = msi_is.protocol; disciplined = msi_is.disciplined; shape = lawful; runs = record { leads = runs } } in
     record {
       premises = premises;
       printed = printed;

@@ -4,7 +4,7 @@ use Rattle.hem_base.specs.declared.ids.Firing.{Firing}
 use Rattle.hem_syntax.specs.Lawful.{IsProtocol}
 use Rattle.hem_syntax.specs.Protocol.{Protocol}
 use Rattle.hem_check.specs.Discipline.{IsDisciplined}
-use Rattle.hem_tree.specs.Tree.{Tree, IsLawful}
+use Rattle.hem_tree.specs.Tree.{Tree, IsTree}
 use Rattle.hem_work.specs.Work.{Work}
 use Rattle.hem_system.specs.State.{State, Runs, start}
 use Rattle.hem_trace.specs.Blocks.{IsSerial, SameFirings, firings_of}
@@ -19,8 +19,8 @@ pub record IsAccepted (p : Protocol) : Type 0 where
 
 -- every history of inclusive MSI on a lawful tree is serializable
 pub record MsiIsSerializable : Type 0 where
-  pub serial : (tree : Tree) (work : Work) (h : List Firing) (s : State) → IsLawful tree → Runs msi tree (start msi tree work) h s → IsSerial msi tree (start msi tree work) (printed_blocks msi tree work h) s
-  pub same : (tree : Tree) (work : Work) (h : List Firing) (s : State) → IsLawful tree → Runs msi tree (start msi tree work) h s → SameFirings h (firings_of (printed_blocks msi tree work h))
+  pub serial : (tree : Tree) (work : Work) (h : List Firing) (s : State) → IsTree tree → Runs msi tree (start msi tree work) h s → IsSerial msi tree (start msi tree work) (printed_blocks msi tree work h) s
+  pub same : (tree : Tree) (work : Work) (h : List Firing) (s : State) → IsTree tree → Runs msi tree (start msi tree work) h s → SameFirings h (firings_of (printed_blocks msi tree work h))
 
 -- a worked history is put into the theorem, and what comes out is its worked printed order
 pub record GoesThrough (x : Example) : Type 0 where

@@ -25,7 +25,7 @@ use Rattle.hem_fire.specs.declared.outs.To.{To}
 use Rattle.hem_fire.specs.declared.outs.To.TheVariants as to
 use Rattle.hem_fire.specs.View.{view_of}
 use Rattle.hem_fire.specs.Sends.{to_requester, send_names, goes_to}
-use Rattle.hem_tree.specs.Tree.{Tree, Node, kind_of, parent_of, is_child, children_of, place_among, IsLawful}
+use Rattle.hem_tree.specs.Tree.{Tree, Node, kind_of, parent_of, is_child, children_of, place_among, IsTree}
 use Rattle.hem_work.specs.Work.{Work, requests_of}
 use Rattle.hem_work.specs.Lawful.{IsLawfulWork}
 use Rattle.hem_system.specs.declared.lane.Lane.{Lane}
@@ -92,7 +92,7 @@ root-not_up p (send.Kids set id v) local view names = ((λ is. cc), (λ is. cc))
 root-not_up p (send.Others set id v) local view names = ((λ is. cc), (λ is. cc))
 
 -- a root is nobody's child
-root-no_child : (tree : Tree) (k o : ℕ) → IsLawful tree → kind_of tree k ≡ Some Root → is_child tree k o ≡ true → ⊥
+root-no_child : (tree : Tree) (k o : ℕ) → IsTree tree → kind_of tree k ≡ Some Root → is_child tree k o ≡ true → ⊥
 root-no_child tree k o lawful is child =
     let first : k ≡ 0 = lawful.one_root k is in
     let none : parent_of tree 0 ≡ None = ap (option_and_then (λ (n : Node). n.parent)) lawful.root in
@@ -139,7 +139,7 @@ never-reached tree f k Mid Requests whom answers ups child lacks reached = let c
 never-reached tree f k Mid Answers whom answers ups child lacks reached = let it = answers-reached tree f k whom reached in let leaf : Mid ≡ Leaf = answers it.0 it.1 in cc
 never-reached tree f k kind lane whom answers ups child lacks reached = let clash : true ≡ false = lacks in cc
 
-module _ (p : Protocol) (tree : Tree) (old new : State) (f : Firing) (lawful : IsLawful tree) (formed : IsFormed p tree old) (it : Came p tree old f new) where
+module _ (p : Protocol) (tree : Tree) (old new : State) (f : Firing) (lawful : IsTree tree) (formed : IsFormed p tree old) (it : Came p tree old f new) where
   -- the kind of the object that fires
   kind-here : (at : At p tree old new f it) (k : ℕ) (kind : Kind) → (k == f.object.0) ≡ true → kind_of tree k ≡ Some kind → at.kind ≡ kind
   kind-here at k kind same is =
@@ -192,11 +192,11 @@ module _ (p : Protocol) (tree : Tree) (old new : State) (f : Firing) (lawful : I
           (never-true (reaches tree f it.effect.outs.to k lane) (none-reached (at-object p tree old new f it) k kind lane kind_is lacks))
 
 -- a firing keeps the lists empty that an object lacks
-pub step-missing : (p : Protocol) (tree : Tree) (old new : State) (f : Firing) → IsLawful tree → IsFormed p tree old → MissingAreEmpty tree old → Fires p tree old f new → MissingAreEmpty tree new
+pub step-missing : (p : Protocol) (tree : Tree) (old new : State) (f : Firing) → IsTree tree → IsFormed p tree old → MissingAreEmpty tree old → Fires p tree old f new → MissingAreEmpty tree new
 step-missing p tree old new f lawful formed empty fires = list-empty p tree old new f lawful formed (came fires) empty
 
 -- and so does a history
-pub run-missing : (p : Protocol) (tree : Tree) (s : State) (h : List Firing) (new : State) → IsProtocol p → IsLawful tree → IsFormed p tree s → MissingAreEmpty tree s → run p tree s h ≡ Some new → MissingAreEmpty tree new
+pub run-missing : (p : Protocol) (tree : Tree) (s : State) (h : List Firing) (new : State) → IsProtocol p → IsTree tree → IsFormed p tree s → MissingAreEmpty tree s → run p tree s h ≡ Some new → MissingAreEmpty tree new
 run-missing p tree s [] new protocol lawful formed empty ran = let same : s ≡ new = cc in subst (MissingAreEmpty tree) same empty
 run-missing p tree s (f ∷ h) new protocol lawful formed empty ran =
     let one = if_some (λ next. run p tree next h) (fire p tree s f) new ran in

@@ -16,7 +16,7 @@ use Rattle.hem_syntax.specs.Protocol.{Protocol, Text, part}
 use Rattle.hem_syntax.specs.Lawful.{IsProtocol}
 use Rattle.hem_object.specs.Local.{IsStatus, IsWellFormed}
 use Rattle.hem_object.specs.Start.{first_local}
-use Rattle.hem_tree.specs.Tree.{Tree, Node, below, kind_of, children_of, IsLawful}
+use Rattle.hem_tree.specs.Tree.{Tree, Node, below, kind_of, children_of, IsTree}
 use Rattle.hem_work.specs.Work.{Work, requests_of}
 use Rattle.hem_work.specs.Lawful.{IsExternal, IsLawfulWork}
 use Rattle.hem_system.specs.declared.lane.Lane.{Lane}
@@ -75,7 +75,7 @@ first-formed p kind children lawful none =
     }
 
 -- a leaf has no child
-leaf-childless : (tree : Tree) (o : ℕ) (node : Node) → IsLawful tree → slice_get tree o ≡ Some node → node.kind ≡ Leaf → length (children_of tree o) ≡ 0
+leaf-childless : (tree : Tree) (o : ℕ) (node : Node) → IsTree tree → slice_get tree o ≡ Some node → node.kind ≡ Leaf → length (children_of tree o) ≡ 0
 leaf-childless tree o node lawful at is =
     let kind_is : kind_of tree o ≡ Some Leaf = ap (option_map (λ (n : Node). n.kind)) at ∙ ap Some is in
     ap length ((lawful.leaves o (slice_get_within tree o node at)).0 kind_is)
@@ -117,7 +117,7 @@ first-declared p tree work line o node Requests lawful = All-weaker (IsExternal 
 first-declared p tree work line o node Answers lawful = All-nil (IsDeclared p)
 
 -- the state at the start is well formed
-pub start-formed : (p : Protocol) (tree : Tree) (work : Work) → IsProtocol p → IsLawful tree → IsLawfulWork p tree work → IsFormed p tree (start p tree work)
+pub start-formed : (p : Protocol) (tree : Tree) (work : Work) → IsProtocol p → IsTree tree → IsLawfulWork p tree work → IsFormed p tree (start p tree work)
 start-formed p tree work lawful tree_lawful work_lawful =
     record {
       objects = λ l line at.

@@ -11,7 +11,7 @@ ghost use Rattle.hem_syntax.specs.Lawful.{IsProtocol, is_rule, counts_of};
 ghost use Rattle.hem_object.specs.Local.{Local, IsWellFormed};
 ghost use Rattle.hem_fire.specs.declared.outs.Outs.{Outs};
 ghost use Rattle.hem_fire.specs.OneFire.{Heads, OneFire};
-ghost use Rattle.hem_tree.specs.Tree.{Tree, IsLawful};
+ghost use Rattle.hem_tree.specs.Tree.{Tree, IsTree};
 ghost use Rattle.hem_work.specs.Work.{Work};
 ghost use Rattle.hem_work.specs.Lawful.{IsLawfulWork};
 ghost use Rattle.hem_system.specs.State.{State, Line, Effect, Fires, Runs, start, effect_of, takes, head_at};
@@ -30,17 +30,17 @@ pub fn firings_keep_well_formed()
 
 /// Each state that a history reaches from the start is well formed: the state at the start is, and a firing keeps it.
 pub fn reached_states_are_well_formed()
-    ensures start { (p : Protocol) (tree : Tree) (work : Work) → IsProtocol p → IsLawful tree → IsLawfulWork p tree work → IsFormed p tree (start p tree work) }
+    ensures start { (p : Protocol) (tree : Tree) (work : Work) → IsProtocol p → IsTree tree → IsLawfulWork p tree work → IsFormed p tree (start p tree work) }
     ensures step { (p : Protocol) (tree : Tree) (old new : State) (f : Firing) → IsProtocol p → IsFormed p tree old → Fires p tree old f new → IsFormed p tree new }
-    ensures reached { (p : Protocol) (tree : Tree) (work : Work) (h : List Firing) (now : State) → IsProtocol p → IsLawful tree → IsLawfulWork p tree work → Runs p tree (start p tree work) h now → IsFormed p tree now }
+    ensures reached { (p : Protocol) (tree : Tree) (work : Work) (h : List Firing) (now : State) → IsProtocol p → IsTree tree → IsLawfulWork p tree work → Runs p tree (start p tree work) h now → IsFormed p tree now }
 {}
 
 /// In each state that a history reaches from the start the lists that an object lacks are empty: at the start they are,
 /// and a firing keeps it.
 pub fn missing_lists_stay_empty()
     ensures start { (p : Protocol) (tree : Tree) (work : Work) → IsLawfulWork p tree work → MissingAreEmpty tree (start p tree work) }
-    ensures step { (p : Protocol) (tree : Tree) (old new : State) (f : Firing) → IsLawful tree → IsFormed p tree old → MissingAreEmpty tree old → Fires p tree old f new → MissingAreEmpty tree new }
-    ensures reached { (p : Protocol) (tree : Tree) (work : Work) (h : List Firing) (now : State) → IsProtocol p → IsLawful tree → IsLawfulWork p tree work → Runs p tree (start p tree work) h now → MissingAreEmpty tree now }
+    ensures step { (p : Protocol) (tree : Tree) (old new : State) (f : Firing) → IsTree tree → IsFormed p tree old → MissingAreEmpty tree old → Fires p tree old f new → MissingAreEmpty tree new }
+    ensures reached { (p : Protocol) (tree : Tree) (work : Work) (h : List Firing) (now : State) → IsProtocol p → IsTree tree → IsLawfulWork p tree work → Runs p tree (start p tree work) h now → MissingAreEmpty tree now }
 {}
 
 /// What a firing takes from a list is there: the list has a head.

@@ -12,7 +12,7 @@ use Rattle.hem_base.specs.declared.ids.Kind.TheVariants.{Root, Mid, Leaf}
 use Rattle.hem_syntax.specs.Protocol.{Protocol, Text}
 use Rattle.hem_object.specs.Local.{Local, IsStatus}
 use Rattle.hem_syntax.specs.Lawful.{IsProtocol}
-use Rattle.hem_tree.specs.Tree.{Tree, Node, below, kind_of, children_of, IsLawful}
+use Rattle.hem_tree.specs.Tree.{Tree, Node, below, kind_of, children_of, IsTree}
 use Rattle.hem_work.specs.Work.{Work, requests_of}
 use Rattle.hem_object.specs.Start.{first_local}
 use Rattle.hem_system.specs.State.{Line, Cell, local_at, first_cell, first_line, start}
@@ -77,7 +77,7 @@ first-of p Leaf n lawful some =
     }
 
 -- what is not a leaf has children
-has-children : (tree : Tree) (o : ℕ) (kind : Kind) → IsLawful tree → o < length tree → kind_of tree o ≡ Some kind → kind ≢ Leaf → length (children_of tree o) ≢ 0
+has-children : (tree : Tree) (o : ℕ) (kind : Kind) → IsTree tree → o < length tree → kind_of tree o ≡ Some kind → kind ≢ Leaf → length (children_of tree o) ≢ 0
 has-children tree o kind lawful within is other none =
     let leaf = (lawful.leaves o within).1 (empty (children_of tree o) none) in
     let both : Some kind ≡ Some Leaf = sym is ∙ leaf in
@@ -95,7 +95,7 @@ first-at p tree requests o local at =
     let node = if_mapped (first_cell p tree requests (0 + o)) (slice_get tree o) cell.0 (sym (slice_get-map_each (first_cell p tree requests) 0 o tree) ∙ cell.1) in
     (node.0, node.1, ap (λ k. first_local p node.0.kind (length (children_of tree k))) (sym z) ∙ ap (λ (c : Cell). c.local) node.2 ∙ cell.2)
 
-pub start-kinds : (p : Protocol) (tree : Tree) (work : Work) → IsProtocol p → IsLawful tree → AreOfKinds p tree (start p tree work)
+pub start-kinds : (p : Protocol) (tree : Tree) (work : Work) → IsProtocol p → IsTree tree → AreOfKinds p tree (start p tree work)
 start-kinds p tree work lawful tree_is =
     record {
       locals = λ l o line local kind at here there.

@@ -15,7 +15,7 @@ ghost use Rattle.hem_syntax.specs.Lawful.{IsProtocol};
 ghost use Rattle.hem_object.specs.Local.{Local};
 ghost use Rattle.hem_object.specs.Guard.{holds};
 ghost use Rattle.hem_template.specs.Template.{reads_me};
-ghost use Rattle.hem_tree.specs.Tree.{Tree, kind_of, IsLawful};
+ghost use Rattle.hem_tree.specs.Tree.{Tree, kind_of, IsTree};
 ghost use Rattle.hem_work.specs.Work.{Work};
 ghost use Rattle.hem_system.specs.declared.lane.Lane.TheVariants.{Requests};
 ghost use Rattle.hem_system.specs.State.{State, Line, run_line, run, start};
@@ -92,7 +92,7 @@ pub fn numbered_messages_stay_in_their_transaction()
 
 /// Transactions in rows that agree along a tree don't go in a circle.
 pub fn rows_that_agree_have_no_circle()
-    ensures { (tree : Tree) (rows : ℕ → List ℕ) (n : ℕ) → ((o t : ℕ) → stands_in (rows o) t ≡ true → o < n) → IsLawful tree → RowsAgree tree rows → HaveRanks rows }
+    ensures { (tree : Tree) (rows : ℕ → List ℕ) (n : ℕ) → ((o t : ℕ) → stands_in (rows o) t ≡ true → o < n) → IsTree tree → RowsAgree tree rows → HaveRanks rows }
 {}
 
 /// The entries of a history that runs from a state without messages in its channels: each transaction is on one line, begins at the place that is its number with an event that takes no message, and goes on with events that take messages.
@@ -126,12 +126,12 @@ pub fn stable_requests_end_ready()
 
 /// Where the normal order of a history runs, and its transactions stand together at each object and agree at parent and child, the printed order is serial, leads to the same state, and has the firings of the history.
 pub fn printed_orders_are_serial()
-    ensures serial { (p : Protocol) (tree : Tree) (s : State) (es : List Entry) (new : State) → IsLawful tree → IsFresh tree s → AreTransactions tree es → NormalRuns p tree s es new → IsSerial p tree s (printed es) new }
-    ensures same { (p : Protocol) (tree : Tree) (s : State) (es : List Entry) (new : State) → IsLawful tree → IsFresh tree s → AreTransactions tree es → NormalRuns p tree s es new → SameFirings (firings_in es) (firings_of (printed es)) }
+    ensures serial { (p : Protocol) (tree : Tree) (s : State) (es : List Entry) (new : State) → IsTree tree → IsFresh tree s → AreTransactions tree es → NormalRuns p tree s es new → IsSerial p tree s (printed es) new }
+    ensures same { (p : Protocol) (tree : Tree) (s : State) (es : List Entry) (new : State) → IsTree tree → IsFresh tree s → AreTransactions tree es → NormalRuns p tree s es new → SameFirings (firings_in es) (firings_of (printed es)) }
 {}
 
 /// Of a stable protocol and a history from the start that is orderly, the printed order is serial, leads to the history's state, and has its firings.
 pub fn orderly_histories_are_serial()
-    ensures serial { (p : Protocol) (tree : Tree) (work : Work) (h : List Firing) (new : State) → IsProtocol p → IsStable p → IsLawful tree → run p tree (start p tree work) h ≡ Some new → IsOrderly p tree (start p tree work) h → IsSerial p tree (start p tree work) (printed (entries_of p tree (start p tree work) h)) new × SameFirings h (firings_of (printed (entries_of p tree (start p tree work) h))) }
+    ensures serial { (p : Protocol) (tree : Tree) (work : Work) (h : List Firing) (new : State) → IsProtocol p → IsStable p → IsTree tree → run p tree (start p tree work) h ≡ Some new → IsOrderly p tree (start p tree work) h → IsSerial p tree (start p tree work) (printed (entries_of p tree (start p tree work) h)) new × SameFirings h (firings_of (printed (entries_of p tree (start p tree work) h))) }
     ensures normal { (p : Protocol) (tree : Tree) (s : State) (h : List Firing) (new : State) → IsProtocol p → IsStable p → IsFresh tree s → AreOfKinds p tree s → run p tree s h ≡ Some new → IsOrderly p tree s h → EntriesRun p tree s (normal (entries_of p tree s h)) new }
 {}

@@ -15,7 +15,7 @@ use Rattle.hem_object.specs.Local.{Local}
 use Rattle.hem_template.specs.Template.{row_of}
 use Rattle.hem_template.specs.declared.row.Taking.{Taking}
 use Rattle.hem_template.specs.declared.row.Taking.TheVariants.{NothingTaken, FromRequester, ParentRequest, ParentResponse, FromKids}
-use Rattle.hem_tree.specs.Tree.{Tree, IsLawful, parent_of, place_among}
+use Rattle.hem_tree.specs.Tree.{Tree, IsTree, parent_of, place_among}
 use Rattle.hem_tree.proofs.Early.{lawful_early}
 use Rattle.hem_system.specs.State.{Cell, Line, State, Effect, effect_of, heads_of, local_at, place_of_me}
 use Rattle.hem_system.specs.Quiet.{holds_none, has_no_message, is_idle, is_quiet}
@@ -32,14 +32,14 @@ use Rattle.hem_locks.proofs.Allowed.{down_freed, waiting_serves, requests_clean}
 use Rattle.hem_locks.proofs.Still.{there, none_held}
 
 -- the parent of an object that is on the line is there too
-pub parent_there : (p : Protocol) (tree : Tree) (line : Line) (o high : ℕ) (cell : Cell) → IsLawful tree → parent_of tree o ≡ Some high → slice_get line o ≡ Some cell → (upper : Cell) × (slice_get line high ≡ Some upper)
+pub parent_there : (p : Protocol) (tree : Tree) (line : Line) (o high : ℕ) (cell : Cell) → IsTree tree → parent_of tree o ≡ Some high → slice_get line o ≡ Some cell → (upper : Cell) × (slice_get line high ≡ Some upper)
 parent_there p tree line o high cell lawful parent at =
     let early = (lawful_early tree lawful).early o high parent in
     let inside = slice_get_within line o cell at in
     there line high (omega arith)
 
 -- the lists of each object's edge are short
-pub few_messages : (p : Protocol) (tree : Tree) (line : Line) (o : ℕ) (cell : Cell) → IsLawful tree → LocksHold p tree line → slice_get line o ≡ Some cell → AreFew cell
+pub few_messages : (p : Protocol) (tree : Tree) (line : Line) (o : ℕ) (cell : Cell) → IsTree tree → LocksHold p tree line → slice_get line o ≡ Some cell → AreFew cell
 few_messages p tree line o cell lawful holds at = by_parent (parent_of tree o) refl
   where
     by_parent : (parent : Option ℕ) → parent_of tree o ≡ parent → AreFew cell
@@ -64,7 +64,7 @@ held_downlock p tree line f e local lock templates possible at held =
     record { template = it.template; of = has_template it; frees = freed.frees; free = freed.free }
 
 -- an object that waits for its parent's response, which isn't there yet, only serves its parent
-pub waiting_object : (p : Protocol) (tree : Tree) (line : Line) (f : Firing) (e : Effect) (cell : Cell) (lock : Lock) → IsLawful tree → AllHaveTemplates p → LocksHold p tree line → effect_of p tree line f ≡ Some e → slice_get line f.object.0 ≡ Some cell → cell.local.up ≡ Some lock → count (is_down_response p) cell.down ≡ 0 → ServesItsParent p tree f
+pub waiting_object : (p : Protocol) (tree : Tree) (line : Line) (f : Firing) (e : Effect) (cell : Cell) (lock : Lock) → IsTree tree → AllHaveTemplates p → LocksHold p tree line → effect_of p tree line f ≡ Some e → slice_get line f.object.0 ≡ Some cell → cell.local.up ≡ Some lock → count (is_down_response p) cell.down ≡ 0 → ServesItsParent p tree f
 waiting_object p tree line f e cell lock lawful templates holds possible at held none = by_parent (parent_of tree f.object.0) refl
   where
     it : IsActed p tree line f e
@@ -99,7 +99,7 @@ clean_path p tree line f e child lows templates holds possible is works =
     requests_clean p tree line f e child lows holds.edges it taken is works
 
 -- where nothing is under way on a line, no lock is held
-pub still_line : (p : Protocol) (tree : Tree) (line : Line) (o : ℕ) (cell : Cell) → IsLawful tree → LocksHold p tree line → LineIsStill line → slice_get line o ≡ Some cell → HoldsNone cell
+pub still_line : (p : Protocol) (tree : Tree) (line : Line) (o : ℕ) (cell : Cell) → IsTree tree → LocksHold p tree line → LineIsStill line → slice_get line o ≡ Some cell → HoldsNone cell
 still_line p tree line o cell lawful holds still at = none_held p tree line lawful holds still o cell at
 
 -- a test of all that another follows from
@@ -126,7 +126,7 @@ still_cell cell none =
     record { up_requests = none_there cell.up_requests c.0; up_responses = none_there cell.up_responses c.1; down = none_there cell.down b.1 }
 
 -- so a state without messages is quiet
-pub quiet_state : (p : Protocol) (tree : Tree) (s : State) → IsLawful tree → AllLocksHold p tree s → list_all (list_all has_no_message) s ≡ true → is_quiet s ≡ true
+pub quiet_state : (p : Protocol) (tree : Tree) (s : State) → IsTree tree → AllLocksHold p tree s → list_all (list_all has_no_message) s ≡ true → is_quiet s ≡ true
 quiet_state p tree s lawful holds none =
     all_from (list_all has_no_message) (list_all is_idle) s
     (λ l line at none.

@@ -14,7 +14,7 @@ use Rattle.hem_template.specs.Template.{row_of}
 use Rattle.hem_template.specs.declared.row.Taking.{Taking}
 use Rattle.hem_template.specs.declared.row.Taking.TheVariants.{NothingTaken, FromRequester, ParentRequest, ParentResponse, FromKids}
 use Rattle.hem_fire.specs.Heads.{Heads}
-use Rattle.hem_tree.specs.Tree.{Tree, IsLawful, parent_of, is_child, place_among}
+use Rattle.hem_tree.specs.Tree.{Tree, IsTree, parent_of, is_child, place_among}
 use Rattle.hem_tree.proofs.Early.{lawful_early}
 use Rattle.hem_system.specs.declared.lane.Lane.{Lane}
 use Rattle.hem_system.specs.declared.lane.Lane.TheVariants.{UpRequests, UpResponses, Down}
@@ -81,7 +81,7 @@ pub other_local : (tree : Tree) (f : Firing) (e : Effect) (k : ℕ) (cell : Cell
 other_local tree f e k cell other = ap (λ b. cond b e.after cell.local) other
 
 -- at the edge of the object that fires
-edge_below : (p : Protocol) (tree : Tree) (line : Line) (f : Firing) (e : Effect) → IsLawful tree → IsActed p tree line f e → (high : ℕ) (upper lower : Cell) → parent_of tree f.object.0 ≡ Some high → slice_get line f.object.0 ≡ Some lower → CellsHold p (place_among tree high f.object.0) upper lower → CellsHold p (place_among tree high f.object.0) (cell_after tree f e high upper) (cell_after tree f e f.object.0 lower)
+edge_below : (p : Protocol) (tree : Tree) (line : Line) (f : Firing) (e : Effect) → IsTree tree → IsActed p tree line f e → (high : ℕ) (upper lower : Cell) → parent_of tree f.object.0 ≡ Some high → slice_get line f.object.0 ≡ Some lower → CellsHold p (place_among tree high f.object.0) upper lower → CellsHold p (place_among tree high f.object.0) (cell_after tree f e high upper) (cell_after tree f e f.object.0 lower)
 edge_below p tree line f e lawful it high upper lower parent at holds =
     let o = f.object.0 in
     let c = place_among tree high o in
@@ -110,7 +110,7 @@ edge_below p tree line f e lawful it high upper lower parent at holds =
     awaits_few c (Some lock) = omega (arith, one_if-few (has_bit lock.awaited.0 c))
 
 -- at the edges of its children
-edge_above : (p : Protocol) (tree : Tree) (line : Line) (f : Firing) (e : Effect) → IsLawful tree → IsActed p tree line f e → (k : ℕ) (upper lower : Cell) → parent_of tree k ≡ Some f.object.0 → slice_get line f.object.0 ≡ Some upper → slice_get line k ≡ Some lower → CellsHold p (place_among tree f.object.0 k) upper lower → CellsHold p (place_among tree f.object.0 k) (cell_after tree f e f.object.0 upper) (cell_after tree f e k lower)
+edge_above : (p : Protocol) (tree : Tree) (line : Line) (f : Firing) (e : Effect) → IsTree tree → IsActed p tree line f e → (k : ℕ) (upper lower : Cell) → parent_of tree k ≡ Some f.object.0 → slice_get line f.object.0 ≡ Some upper → slice_get line k ≡ Some lower → CellsHold p (place_among tree f.object.0 k) upper lower → CellsHold p (place_among tree f.object.0 k) (cell_after tree f e f.object.0 upper) (cell_after tree f e k lower)
 edge_above p tree line f e lawful it k upper lower parent at_high at holds =
     let o = f.object.0 in
     let c = place_among tree o k in
@@ -161,7 +161,7 @@ edge_beside p tree f e c k high upper lower other_high other child holds =
     subst (λ (x : List Message). EdgeHolds p c (cell_after tree f e high upper).local (cell_after tree f e k lower).local (cell_after tree f e k lower).up_requests (cell_after tree f e k lower).up_responses x) down four
 
 -- at each edge
-edge_kept : (p : Protocol) (tree : Tree) (line : Line) (f : Firing) (e : Effect) → IsLawful tree → IsActed p tree line f e → (k high : ℕ) (upper lower : Cell) → parent_of tree k ≡ Some high → slice_get line high ≡ Some upper → slice_get line k ≡ Some lower → CellsHold p (place_among tree high k) upper lower → CellsHold p (place_among tree high k) (cell_after tree f e high upper) (cell_after tree f e k lower)
+edge_kept : (p : Protocol) (tree : Tree) (line : Line) (f : Firing) (e : Effect) → IsTree tree → IsActed p tree line f e → (k high : ℕ) (upper lower : Cell) → parent_of tree k ≡ Some high → slice_get line high ≡ Some upper → slice_get line k ≡ Some lower → CellsHold p (place_among tree high k) upper lower → CellsHold p (place_among tree high k) (cell_after tree f e high upper) (cell_after tree f e k lower)
 edge_kept p tree line f e lawful it k high upper lower parent at_high at holds = by_object (eqb_tells k f.object.0) (eqb_tells high f.object.0)
   where
     by_object : ((k == f.object.0) ≡ true) × (k ≡ f.object.0) ⊎ ((k == f.object.0) ≡ false) × (k ≢ f.object.0) → ((high == f.object.0) ≡ true) × (high ≡ f.object.0) ⊎ ((high == f.object.0) ≡ false) × (high ≢ f.object.0) → CellsHold p (place_among tree high k) (cell_after tree f e high upper) (cell_after tree f e k lower)
@@ -175,7 +175,7 @@ edge_kept p tree line f e lawful it k high upper lower parent at_high at holds =
         edge_beside p tree f e (place_among tree high k) k high upper lower other_high.0 other.0 (other_child tree k high f.object.0 parent other_high.1) holds
 
 -- a firing keeps the invariant at each edge of its line
-pub edges_kept : (p : Protocol) (tree : Tree) (line : Line) (f : Firing) (e : Effect) → IsLawful tree → IsActed p tree line f e → EdgesHold p tree line → EdgesHold p tree (line_after tree f e line)
+pub edges_kept : (p : Protocol) (tree : Tree) (line : Line) (f : Firing) (e : Effect) → IsTree tree → IsActed p tree line f e → EdgesHold p tree line → EdgesHold p tree (line_after tree f e line)
 edges_kept p tree line f e lawful it holds =
     record {
       edge = λ k high upper lower parent at_high at.

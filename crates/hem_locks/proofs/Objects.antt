@@ -23,7 +23,7 @@ use Rattle.hem_template.specs.declared.row.Sending.TheVariants.{NothingSent, ToR
 use Rattle.hem_fire.specs.declared.outs.Outs.{Outs}
 use Rattle.hem_fire.specs.Heads.{Heads}
 use Rattle.hem_fire.specs.Sends.{has_parent}
-use Rattle.hem_tree.specs.Tree.{Tree, IsLawful, kind_of, parent_of, is_number, is_child, children_of}
+use Rattle.hem_tree.specs.Tree.{Tree, IsTree, kind_of, parent_of, is_number, is_child, children_of}
 use Rattle.hem_system.specs.declared.lane.Lane.TheVariants.{Down}
 use Rattle.hem_system.specs.State.{Cell, Line, Effect, map_each, heads_of, place_of_me, cell_after, line_after}
 use Rattle.hem_system.proofs.Changed.{lists_stay, is_same}
@@ -63,7 +63,7 @@ awaits_one-after p kind RsUpUp me local heads after outs acts before lock is = l
 awaits_one-after p kind RsUpSelf me local heads after outs acts before lock is = let none : after.down ≡ None = acts.down_after in cc
 
 -- an object without a parent is the root
-root_kind : (tree : Tree) → IsLawful tree → (o : ℕ) (kind : Kind) → kind_of tree o ≡ Some kind → parent_of tree o ≡ None → kind ≡ Root
+root_kind : (tree : Tree) → IsTree tree → (o : ℕ) (kind : Kind) → kind_of tree o ≡ Some kind → parent_of tree o ≡ None → kind ≡ Root
 root_kind tree lawful zero kind is none =
     let here : kind_of tree 0 ≡ Some Root = rw lawful.root refl in
     let both : Some kind ≡ Some Root = sym is ∙ here in
@@ -101,7 +101,7 @@ unchanged : (m : Message) (ms : List Message) → ms ≡ [] → changed false fa
 unchanged m ms empty = rw empty refl
 
 -- the root after a firing of its own
-top-after : (p : Protocol) (tree : Tree) (line : Line) (f : Firing) (e : Effect) (cell : Cell) → IsLawful tree → IsActed p tree line f e → slice_get line f.object.0 ≡ Some cell → parent_of tree f.object.0 ≡ None → IsTop cell → IsTop (cell_after tree f e f.object.0 cell)
+top-after : (p : Protocol) (tree : Tree) (line : Line) (f : Firing) (e : Effect) (cell : Cell) → IsTree tree → IsActed p tree line f e → slice_get line f.object.0 ≡ Some cell → parent_of tree f.object.0 ≡ None → IsTop cell → IsTop (cell_after tree f e f.object.0 cell)
 top-after p tree line f e cell lawful it at none top =
     let o = f.object.0 in
     let heads = heads_of tree line o f.me in
@@ -130,7 +130,7 @@ top-after p tree line f e cell lawful it at none top =
     }
 
 -- the object that fires
-object_own : (p : Protocol) (tree : Tree) (line : Line) (f : Firing) (e : Effect) (cell : Cell) → IsLawful tree → IsActed p tree line f e → slice_get line f.object.0 ≡ Some cell → ObjectHolds tree f.object.0 cell → ObjectHolds tree f.object.0 (cell_after tree f e f.object.0 cell)
+object_own : (p : Protocol) (tree : Tree) (line : Line) (f : Firing) (e : Effect) (cell : Cell) → IsTree tree → IsActed p tree line f e → slice_get line f.object.0 ≡ Some cell → ObjectHolds tree f.object.0 cell → ObjectHolds tree f.object.0 (cell_after tree f e f.object.0 cell)
 object_own p tree line f e cell lawful it at holds =
     let o = f.object.0 in
     let own = own_local tree f e o cell (is_same o) in
@@ -167,7 +167,7 @@ object_other tree f e k cell other holds =
     }
 
 -- a firing keeps the invariant at each object
-pub objects_kept : (p : Protocol) (tree : Tree) (line : Line) (f : Firing) (e : Effect) → IsLawful tree → IsActed p tree line f e → ObjectsHold tree line → ObjectsHold tree (line_after tree f e line)
+pub objects_kept : (p : Protocol) (tree : Tree) (line : Line) (f : Firing) (e : Effect) → IsTree tree → IsActed p tree line f e → ObjectsHold tree line → ObjectsHold tree (line_after tree f e line)
 objects_kept p tree line f e lawful it holds =
     record {
       object = λ k cell at.

@@ -14,7 +14,7 @@ use Rattle.hem_fire.specs.declared.outs.To.{To}
 use Rattle.hem_fire.specs.declared.outs.To.TheVariants as to
 use Rattle.hem_fire.specs.declared.outs.Outs.{Outs}
 use Rattle.hem_template.specs.Template.{is_leaf}
-use Rattle.hem_tree.specs.Tree.{Tree, IsLawful, kind_of, parent_of, is_number, is_child, children_of, place_among}
+use Rattle.hem_tree.specs.Tree.{Tree, IsTree, kind_of, parent_of, is_number, is_child, children_of, place_among}
 use Rattle.hem_tree.proofs.Early.{lawful_early}
 use Rattle.hem_system.specs.declared.lane.Lane.TheVariants.{UpRequests, UpResponses, Down}
 use Rattle.hem_system.specs.State.{Line, takes, reaches, is_own_child, place_of_me, head_at, request_head, heads_of}
@@ -40,7 +40,7 @@ pub other_child : (tree : Tree) (k high o : ℕ) → parent_of tree k ≡ Some h
 other_child tree k high o parent other = ap (λ (p : Option ℕ). is_number p o) parent ∙ not_same high o other
 
 -- no object is its own child
-pub not_own_child : (tree : Tree) → IsLawful tree → (o high : ℕ) → parent_of tree o ≡ Some high → is_child tree o o ≡ false
+pub not_own_child : (tree : Tree) → IsTree tree → (o high : ℕ) → parent_of tree o ≡ Some high → is_child tree o o ≡ false
 not_own_child tree lawful o high parent =
     let before = (lawful_early tree lawful).early o high parent in
     other_child tree o high o parent (λ same. absurd (omega (arith, same)))
@@ -50,7 +50,7 @@ pub within : (tree : Tree) (o : ℕ) (kind : Kind) → kind_of tree o ≡ Some k
 within tree o kind is = let node = if_mapped (λ node. node.kind) (slice_get tree o) kind is in slice_get_within tree o node.0 node.1
 
 -- an object with a child is no leaf
-pub no_leaf : (tree : Tree) → IsLawful tree → (k high : ℕ) (kind : Kind) → parent_of tree k ≡ Some high → kind_of tree high ≡ Some kind → is_leaf kind ≡ false
+pub no_leaf : (tree : Tree) → IsTree tree → (k high : ℕ) (kind : Kind) → parent_of tree k ≡ Some high → kind_of tree high ≡ Some kind → is_leaf kind ≡ false
 no_leaf tree lawful k high Root parent kind = refl
 no_leaf tree lawful k high Mid parent kind = refl
 no_leaf tree lawful k high Leaf parent kind =

@@ -14,7 +14,7 @@ use Rattle.hem_syntax.specs.Protocol.{Protocol}
 use Rattle.hem_object.specs.Local.{Local}
 use Rattle.hem_syntax.specs.Lawful.{IsProtocol, has_status, counts_of}
 use Rattle.hem_object.specs.Start.{first_local}
-use Rattle.hem_tree.specs.Tree.{Tree, Node, IsLawful, below, kind_of, children_of, place_among}
+use Rattle.hem_tree.specs.Tree.{Tree, Node, IsTree, below, kind_of, children_of, place_among}
 use Rattle.hem_work.specs.Work.{Work, requests_of}
 use Rattle.hem_system.specs.State.{Cell, Line, State, LineStep, Step, Effect, effect_of, line_after, line_step_of, step_of, fire, run, Runs, first_cell, first_line, start}
 use Rattle.hem_system.proofs.Sets.{get_set_here, get_set_other}
@@ -27,7 +27,7 @@ use Rattle.hem_locks.proofs.Lines.{get_map_each, edges_kept}
 use Rattle.hem_locks.proofs.Objects.{length-after, length-map_each, objects_kept}
 
 -- a firing keeps the invariant on its line
-pub line_kept : (p : Protocol) (tree : Tree) (line : Line) (f : Firing) (e : Effect) → IsLawful tree → AllHaveTemplates p → effect_of p tree line f ≡ Some e → LocksHold p tree line → LocksHold p tree (line_after tree f e line)
+pub line_kept : (p : Protocol) (tree : Tree) (line : Line) (f : Firing) (e : Effect) → IsTree tree → AllHaveTemplates p → effect_of p tree line f ≡ Some e → LocksHold p tree line → LocksHold p tree (line_after tree f e line)
 line_kept p tree line f e lawful templates possible holds =
     let it = acted p tree line f e templates possible in
     record {
@@ -64,7 +64,7 @@ made p tree old new f leads =
     }
 
 -- it keeps the invariant on each line
-pub fires-keeps : (p : Protocol) (tree : Tree) (old new : State) (f : Firing) → IsLawful tree → AllHaveTemplates p → fire p tree old f ≡ Some new → AllLocksHold p tree old → AllLocksHold p tree new
+pub fires-keeps : (p : Protocol) (tree : Tree) (old new : State) (f : Firing) → IsTree tree → AllHaveTemplates p → fire p tree old f ≡ Some new → AllLocksHold p tree old → AllLocksHold p tree new
 fires-keeps p tree old new f lawful templates leads holds =
     let it = made p tree old new f leads in
     let next = line_after tree f it.effect it.line in
@@ -79,13 +79,13 @@ fires-keeps p tree old new f lawful templates leads holds =
     by_line l line (inr other) it next at = holds.line l line (sym (get_set_other old f.line.0 l (line_after tree f it.effect it.line) other.1) ∙ at)
 
 -- so does a history
-run-keeps : (p : Protocol) (tree : Tree) (h : List Firing) (old new : State) → IsLawful tree → AllHaveTemplates p → run p tree old h ≡ Some new → AllLocksHold p tree old → AllLocksHold p tree new
+run-keeps : (p : Protocol) (tree : Tree) (h : List Firing) (old new : State) → IsTree tree → AllHaveTemplates p → run p tree old h ≡ Some new → AllLocksHold p tree old → AllLocksHold p tree new
 run-keeps p tree [] old new lawful templates leads holds = let same : old ≡ new = cc in subst (λ (s : State). AllLocksHold p tree s) same holds
 run-keeps p tree (f ∷ h) old new lawful templates leads holds =
     let first = if_some (λ next. run p tree next h) (fire p tree old f) new leads in
     run-keeps p tree h first.0 new lawful templates first.2 (fires-keeps p tree old first.0 f lawful templates first.1 holds)
 
-pub runs-keep : (p : Protocol) (tree : Tree) (old new : State) (h : List Firing) → IsLawful tree → AllHaveTemplates p → Runs p tree old h new → AllLocksHold p tree old → AllLocksHold p tree new
+pub runs-keep : (p : Protocol) (tree : Tree) (old new : State) (h : List Firing) → IsTree tree → AllHaveTemplates p → Runs p tree old h new → AllLocksHold p tree old → AllLocksHold p tree new
 runs-keep p tree old new h lawful templates runs holds = run-keeps p tree h old new lawful templates runs.leads holds
 
 -- at the start nothing is held and nothing is under way
@@ -119,14 +119,14 @@ entries : (d : Option Status8) (n : ℕ) (test : Status8 → Bool) → option_ma
 entries None n test some = cc
 entries (Some s) n test some = length-replicate n s
 
-entries_of : (p : Protocol) (tree : Tree) → IsProtocol p → IsLawful tree → (k : ℕ) (kind : Kind) → kind_of tree k ≡ Some kind → length (first_local p kind (length (children_of tree k))).dir ≡ length (children_of tree k)
+entries_of : (p : Protocol) (tree : Tree) → IsProtocol p → IsTree tree → (k : ℕ) (kind : Kind) → kind_of tree k ≡ Some kind → length (first_local p kind (length (children_of tree k))).dir ≡ length (children_of tree k)
 entries_of p tree protocol lawful k Root kind = entries p.root.dir (length (children_of tree k)) (has_status (counts_of p p.root)) protocol.root_dir
 entries_of p tree protocol lawful k Mid kind = entries p.mid.dir (length (children_of tree k)) (has_status (counts_of p p.mid)) protocol.mid_dir
 entries_of p tree protocol lawful k Leaf kind =
     let none : children_of tree k ≡ [] = (lawful.leaves k (within tree k Leaf kind)).0 kind in
     ap (λ (d : Option Status8). length (option_map_or (λ s. replicate (length (children_of tree k)) s) d [])) protocol.leaf_dir ∙ sym (ap length none)
 
-first-objects : (p : Protocol) (tree : Tree) (requests : ℕ → List Message) → IsProtocol p → IsLawful tree → ObjectsHold tree (first_line p tree requests)
+first-objects : (p : Protocol) (tree : Tree) (requests : ℕ → List Message) → IsProtocol p → IsTree tree → ObjectsHold tree (first_line p tree requests)
 first-objects p tree requests protocol lawful =
     record {
       object = λ k cell at.
@@ -141,7 +141,7 @@ first-objects p tree requests protocol lawful =
 first-size : (p : Protocol) (tree : Tree) (requests : ℕ → List Message) → length (first_line p tree requests) ≡ length tree
 first-size p tree requests = length-map_each (first_cell p tree requests) 0 tree
 
-pub start-holds : (p : Protocol) (tree : Tree) (work : Work) → IsProtocol p → IsLawful tree → AllLocksHold p tree (start p tree work)
+pub start-holds : (p : Protocol) (tree : Tree) (work : Work) → IsProtocol p → IsTree tree → AllLocksHold p tree (start p tree work)
 start-holds p tree work protocol lawful =
     record {
       line = λ l line at.
@@ -151,5 +151,5 @@ start-holds p tree work protocol lawful =
     }
 
 -- so the invariant holds in each state that a history reaches
-pub reached-holds : (p : Protocol) (tree : Tree) (work : Work) (h : List Firing) (s : State) → IsProtocol p → IsLawful tree → AllHaveTemplates p → Runs p tree (start p tree work) h s → AllLocksHold p tree s
+pub reached-holds : (p : Protocol) (tree : Tree) (work : Work) (h : List Firing) (s : State) → IsProtocol p → IsTree tree → AllHaveTemplates p → Runs p tree (start p tree work) h s → AllLocksHold p tree s
 reached-holds p tree work h s protocol lawful templates runs = runs-keep p tree (start p tree work) s h lawful templates runs (start-holds p tree work protocol lawful)

@@ -5,7 +5,7 @@ use Rattle.std.proofs.lemmas.Option.{slice_get_within}
 use Rattle.hem_base.specs.Sets.{has_bit}
 use Rattle.hem_object.specs.declared.state.Lock.{Lock}
 use Rattle.hem_syntax.specs.Protocol.{Protocol}
-use Rattle.hem_tree.specs.Tree.{Tree, IsLawful, parent_of, children_of, place_among}
+use Rattle.hem_tree.specs.Tree.{Tree, IsTree, parent_of, children_of, place_among}
 use Rattle.hem_tree.proofs.Early.{lawful_early}
 use Rattle.hem_system.specs.State.{Cell, Line}
 use Rattle.hem_system.proofs.Kids.{at_child}
@@ -47,7 +47,7 @@ awaited_at held lock c k is place awaited = ap (awaits c) is ∙ ap (λ c. one_i
 not_for_parent : (lock : Option Lock) → lock ≡ None → for_parent lock ≡ 0
 not_for_parent lock free = ap for_parent free
 
-module _ (p : Protocol) (tree : Tree) (line : Line) (lawful : IsLawful tree) (holds : LocksHold p tree line) (still : LineIsStill line) where
+module _ (p : Protocol) (tree : Tree) (line : Line) (lawful : IsTree tree) (holds : LocksHold p tree line) (still : LineIsStill line) where
   -- a downlock that is held awaits a child, whose downlock is held for its parent, and so on down to a leaf, that awaits nobody
   no_downlock : (n o : ℕ) (cell : Cell) → length tree ≤ o + n → slice_get line o ≡ Some cell → cell.local.down ≡ None
   no_downlock zero o cell far at = absurd (let inside = slice_get_within line o cell at in omega (arith, holds.size))

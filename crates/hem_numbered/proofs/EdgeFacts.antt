@@ -10,7 +10,7 @@ use Rattle.hem_object.specs.declared.state.By.TheVariants.{Processor, Kid, Paren
 use Rattle.hem_object.specs.declared.state.Lock.{Lock}
 use Rattle.hem_syntax.specs.Protocol.{Protocol}
 use Rattle.hem_object.specs.Local.{Local}
-use Rattle.hem_tree.specs.Tree.{Tree, children_of, is_child, place_among, IsLawful}
+use Rattle.hem_tree.specs.Tree.{Tree, children_of, is_child, place_among, IsTree}
 use Rattle.hem_tree.proofs.Early.{lawful_early}
 use Rattle.hem_tree.proofs.Lawful.{get_within}
 use Rattle.hem_system.specs.declared.lane.Lane.{Lane}
@@ -33,7 +33,7 @@ pub record EdgeAt (p : Protocol) (tree : Tree) (line : Line) (k o : ℕ) : Type 
   pub order : responses_first p (list_at line k Down) ≡ true
   pub single : held (uplock_at line k) + held (downlock_at line k) ≤ 1 + for_parent (downlock_at line k)
 
-pub edge_at : (p : Protocol) (tree : Tree) (line : Line) → IsLawful tree → LocksHold p tree line → (k o : ℕ) → is_child tree k o ≡ true → EdgeAt p tree line k o
+pub edge_at : (p : Protocol) (tree : Tree) (line : Line) → IsTree tree → LocksHold p tree line → (k o : ℕ) → is_child tree k o ≡ true → EdgeAt p tree line k o
 edge_at p tree line lawful holds k o own =
     let in_tree = child_within tree k o own in
     let before = (lawful_early tree lawful).early k o (parent_is tree k o own) in

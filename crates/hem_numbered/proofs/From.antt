@@ -16,7 +16,7 @@ use Rattle.hem_object.specs.declared.state.Lock.{Lock}
 use Rattle.hem_syntax.specs.Protocol.{Protocol}
 use Rattle.hem_object.specs.Local.{nobody}
 use Rattle.hem_template.specs.Template.{level_fits}
-use Rattle.hem_tree.specs.Tree.{Tree, kind_of, parent_of, is_child, place_among, IsLawful}
+use Rattle.hem_tree.specs.Tree.{Tree, kind_of, parent_of, is_child, place_among, IsTree}
 use Rattle.hem_tree.proofs.Lawful.{number_is}
 use Rattle.hem_fire.specs.declared.outs.Outs.{Outs}
 use Rattle.hem_fire.specs.View.{requester}
@@ -100,7 +100,7 @@ from_requester p tree f outs line numbers is_new n bounded known number own me a
         } in made)
 
 -- an object whose rule takes from the parent has one
-pub parent_above : (tree : Tree) (o : ℕ) (kind : Kind) (rule : Rule) (id : MsgId) → IsLawful tree → kind_of tree o ≡ Some kind → level_fits kind rule ≡ true → rule.take ≡ take.Parent id → (high : ℕ) × (parent_of tree o ≡ Some high)
+pub parent_above : (tree : Tree) (o : ℕ) (kind : Kind) (rule : Rule) (id : MsgId) → IsTree tree → kind_of tree o ≡ Some kind → level_fits kind rule ≡ true → rule.take ≡ take.Parent id → (high : ℕ) × (parent_of tree o ≡ Some high)
 parent_above tree o kind rule id lawful is fits takes = ⊎_elim (λ less. lawful.parents o less (within tree o kind is)) (λ none. absurd (no_root kind fits (root (omega arith)))) (order 0 o)
   where
     root : o ≡ 0 → kind ≡ Root

@@ -8,7 +8,7 @@ use Rattle.hem_syntax.specs.declared.rule.Rule.{Rule}
 use Rattle.hem_template.specs.declared.template_name.TemplateName.{TemplateName}
 use Rattle.hem_syntax.specs.Protocol.{Protocol}
 use Rattle.hem_object.specs.Local.{Local}
-use Rattle.hem_tree.specs.Tree.{Tree, IsLawful}
+use Rattle.hem_tree.specs.Tree.{Tree, IsTree}
 use Rattle.hem_tree.proofs.Early.{lawful_early}
 use Rattle.hem_fire.specs.declared.outs.Outs.{Outs}
 use Rattle.hem_system.specs.State.{State, Line, line_after}
@@ -60,7 +60,7 @@ down_own p tree f t kind rule before after outs old new numbers is_new first n x
     by_takes child_answers is can = sym (held_number tree f.object.0 x (numbers.down f.object.0) (downlock_at old f.object.0) a holds) ∙ held_number tree f.object.0 n (numbers.down f.object.0) (downlock_at old f.object.0) it.move.asker can.down
 
 -- a transaction that fires again at an object holds a lock of it
-pub again_holds : (tree : Tree) → IsLawful tree → (o : ℕ) (asker : Asker) (takes : Taking) (at : Progress) → HasShape tree at → CanTake tree o asker takes at → at.fired o ≢ [] → HoldsLock at o
+pub again_holds : (tree : Tree) → IsTree tree → (o : ℕ) (asker : Asker) (takes : Taking) (at : Progress) → HasShape tree at → CanTake tree o asker takes at → at.fired o ≢ [] → HoldsLock at o
 again_holds tree lawful o asker request at shape can some = absurd (some (request_first tree (lawful_early tree lawful) o asker request at shape can refl))
 again_holds tree lawful o asker parent_answer at shape can some = inl (asker, can.up)
 again_holds tree lawful o asker child_answers at shape can some = inr (asker, can.down)

@@ -11,7 +11,7 @@ use Rattle.hem_template.specs.declared.template_name.TemplateName.{TemplateName}
 use Rattle.hem_template.specs.declared.template_name.TemplateName.TheVariants.{ImmSelf, ImmDown, ImmUp, RqUp, RqUpSelf, RqUpDown, RqDownSelf, RqDownDown, RsDown, RsDownSelf, RsDownRqDown, RsUpDown, RsUpUp, RsUpSelf}
 use Rattle.hem_syntax.specs.Protocol.{Protocol, rule_named}
 use Rattle.hem_template.specs.Template.{template_of}
-use Rattle.hem_tree.specs.Tree.{Tree, kind_of, level_of, IsLawful}
+use Rattle.hem_tree.specs.Tree.{Tree, kind_of, level_of, IsTree}
 use Rattle.hem_fire.specs.declared.outs.Outs.{Outs}
 use Rattle.hem_system.specs.declared.lane.Lane.{Lane}
 use Rattle.hem_system.specs.declared.lane.Lane.TheVariants.{Requests}
@@ -117,7 +117,7 @@ pub record IsStep (p : Protocol) (tree : Tree) (owner : ℕ → ℕ) (line : Lin
   pub own_line : owner n ≡ f.line.0
   pub begins : (first n ≡ true) ⊎ (is_new n ≡ false)
 
-pub known_step : (p : Protocol) (tree : Tree) (owner : ℕ → ℕ) (s mid : State) (all : ℕ → Numbers) (is_new : ℕ → Bool) (past : List Entry) (f : Firing) (place n : ℕ) (first : ℕ → Bool) → IsLawful tree → AllHaveTemplates p → fire p tree s f ≡ Some mid → (it : IsMade p tree s f mid) → AreKnown p tree owner s all is_new past → HasNumber tree f it.effect.outs (all f.line.0).lists first n → ((y : ℕ) → first y ≡ true → (is_new y ≡ true) × (owner y ≡ f.line.0)) → IsStep p tree owner it.line mid all is_new past f it.effect place n first
+pub known_step : (p : Protocol) (tree : Tree) (owner : ℕ → ℕ) (s mid : State) (all : ℕ → Numbers) (is_new : ℕ → Bool) (past : List Entry) (f : Firing) (place n : ℕ) (first : ℕ → Bool) → IsTree tree → AllHaveTemplates p → fire p tree s f ≡ Some mid → (it : IsMade p tree s f mid) → AreKnown p tree owner s all is_new past → HasNumber tree f it.effect.outs (all f.line.0).lists first n → ((y : ℕ) → first y ≡ true → (is_new y ≡ true) × (owner y ≡ f.line.0)) → IsStep p tree owner it.line mid all is_new past f it.effect place n first
 known_step p tree owner s mid all is_new past f place n first lawful templates fires it known number news =
     let l = f.line.0 in
     let x = entry_by p tree place n f it.effect in

@@ -12,7 +12,7 @@ use Rattle.hem_syntax.specs.Protocol.{Protocol, rule_named}
 use Rattle.hem_object.specs.Local.{Local}
 use Rattle.hem_template.specs.Template.{template_of}
 use Rattle.hem_fire.specs.OneFire.{Heads, OneFire, can_fire, local_after, outs_of}
-use Rattle.hem_tree.specs.Tree.{Tree, Node, parent_of, is_child, place_among, IsLawful}
+use Rattle.hem_tree.specs.Tree.{Tree, Node, parent_of, is_child, place_among, IsTree}
 use Rattle.hem_tree.proofs.Early.{lawful_early}
 use Rattle.hem_tree.proofs.Lawful.{get_within}
 use Rattle.hem_system.specs.declared.lane.Lane.{Lane}
@@ -44,7 +44,7 @@ child_within tree k o own = by_node (slice_get tree k) refl (parent_is tree k o 
     by_node (Some node) at above = slice_get_within tree k node at
 
 -- where the invariant of locks holds, what is under way is bounded
-pub bounded : (p : Protocol) (tree : Tree) (line : Line) → IsLawful tree → LocksHold p tree line → AreBounded p tree line
+pub bounded : (p : Protocol) (tree : Tree) (line : Line) → IsTree tree → LocksHold p tree line → AreBounded p tree line
 bounded p tree line lawful holds =
     record {
       one = λ k o own.
@@ -104,7 +104,7 @@ one_fire p kind rule me local heads e is =
     let it = chosen (can_fire p kind rule me local heads) (let made : Effect = record { after = local_after p kind rule me local heads; took = taken_heads outs heads; outs = outs } in made) e is in
     record { possible = it.0; leaves = sym (ap (λ (e : Effect). e.after) it.1); gives = sym (ap (λ (e : Effect). e.outs) it.1) }
 
-pub firing_of : (p : Protocol) (tree : Tree) (line : Line) (f : Firing) (e : Effect) → IsLawful tree → AllHaveTemplates p → LocksHold p tree line → effect_of p tree line f ≡ Some e → FiringOf p tree line f e
+pub firing_of : (p : Protocol) (tree : Tree) (line : Line) (f : Firing) (e : Effect) → IsTree tree → AllHaveTemplates p → LocksHold p tree line → effect_of p tree line f ≡ Some e → FiringOf p tree line f e
 firing_of p tree line f e lawful templates holds possible =
     let by_local = if_some (λ local. own_effect p tree f local (heads_of tree line f.object.0 f.me)) (local_at line f.object.0) e possible in
     let local = by_local.0 in

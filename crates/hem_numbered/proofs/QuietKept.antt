@@ -8,7 +8,7 @@ use Rattle.hem_template.specs.declared.template_name.TemplateName.{TemplateName}
 use Rattle.hem_object.specs.declared.state.Lock.{Lock}
 use Rattle.hem_syntax.specs.Protocol.{Protocol}
 use Rattle.hem_object.specs.Local.{Local}
-use Rattle.hem_tree.specs.Tree.{Tree, parent_of, place_among, IsLawful}
+use Rattle.hem_tree.specs.Tree.{Tree, parent_of, place_among, IsTree}
 use Rattle.hem_tree.proofs.Early.{lawful_early}
 use Rattle.hem_tree.proofs.Lawful.{number_is}
 use Rattle.hem_fire.specs.declared.outs.Outs.{Outs}
@@ -108,7 +108,7 @@ clean_below p tree line k o x n a edge free waits =
     no_lock (Some l) is = absurd (omega (arith, is))
 
 -- down from the child that asks, through all that waits
-clean_way : (p : Protocol) (tree : Tree) (line : Line) (numbers : Numbers) (is_new : ℕ → Bool) (x c o : ℕ) → IsLawful tree → LocksHold p tree line → AreNumbers p tree line numbers is_new → parent_of tree c ≡ Some o → (progress_of p tree line numbers x).asks_up c ≡ true → downlock_at line o ≡ None → (steps k : ℕ) (a : Asker) → steps_up tree steps k ≡ Some c → (progress_of p tree line numbers x).up k ≡ Some a → IsClean p line k
+clean_way : (p : Protocol) (tree : Tree) (line : Line) (numbers : Numbers) (is_new : ℕ → Bool) (x c o : ℕ) → IsTree tree → LocksHold p tree line → AreNumbers p tree line numbers is_new → parent_of tree c ≡ Some o → (progress_of p tree line numbers x).asks_up c ≡ true → downlock_at line o ≡ None → (steps k : ℕ) (a : Asker) → steps_up tree steps k ≡ Some c → (progress_of p tree line numbers x).up k ≡ Some a → IsClean p line k
 clean_way p tree line numbers is_new x c o lawful locks known above asks free zero k a arrives waits =
     let same : k ≡ c = (let there : Some k ≡ Some c = arrives in cc) in
     clean_below p tree line k o x (numbers.up k) a (edge_at p tree line lawful locks k o (number_is (parent_of tree k) o (ap (parent_of tree) same ∙ above))) free waits

@@ -13,7 +13,7 @@ use Rattle.hem_object.specs.declared.state.By.{By}
 use Rattle.hem_object.specs.declared.state.By.TheVariants.{Processor, Kid, Parent, Own}
 use Rattle.hem_syntax.specs.Protocol.{Protocol, class_of, has_class, is_down_req, is_down_rsp}
 use Rattle.hem_template.specs.Template.{is_leaf}
-use Rattle.hem_tree.specs.Tree.{Tree, Node, kind_of, children_of, is_child, place_among, IsLawful}
+use Rattle.hem_tree.specs.Tree.{Tree, Node, kind_of, children_of, is_child, place_among, IsTree}
 use Rattle.hem_fire.specs.declared.outs.To.TheVariants as to
 use Rattle.hem_fire.specs.declared.outs.Outs.{Outs}
 use Rattle.hem_fire.specs.Sends.{to_requester}
@@ -63,7 +63,7 @@ within tree o kind is = by_node (slice_get tree o) refl is
     by_node (Some node) at is = slice_get_within tree o node at
 
 -- an object with a child is no leaf
-parents_no_leaf : (tree : Tree) (o i c : ℕ) (kind : Kind) → IsLawful tree → kind_of tree o ≡ Some kind → slice_get (children_of tree o) i ≡ Some c → is_leaf kind ≡ false
+parents_no_leaf : (tree : Tree) (o i c : ℕ) (kind : Kind) → IsTree tree → kind_of tree o ≡ Some kind → slice_get (children_of tree o) i ≡ Some c → is_leaf kind ≡ false
 parents_no_leaf tree o i c Root lawful is there = refl
 parents_no_leaf tree o i c Mid lawful is there = refl
 parents_no_leaf tree o i c Leaf lawful is there =
@@ -79,7 +79,7 @@ nobody_there tree o i k none = by_tests (is_child tree k o) refl (place_among tr
     by_tests true own false is = refl
     by_tests true own true is = absurd (let bad : None ≡ Some k = sym none ∙ ap (λ i. slice_get (children_of tree o) i) (sym (eqb-true (place_among tree o k) i is)) ∙ child_at tree o k own in cc)
 
-pub requester_as : (p : Protocol) (tree : Tree) (f : Firing) (outs : Outs) (kind : Kind) (by : By) → IsLawful tree → kind_of tree f.object.0 ≡ Some kind → Asks by → outs.to ≡ to_requester (Some by) → (is_leaf kind ≡ false → is_down_response p outs.message ≡ true) → GivesAs p tree f outs (asker_of tree f.object.0 by) answer
+pub requester_as : (p : Protocol) (tree : Tree) (f : Firing) (outs : Outs) (kind : Kind) (by : By) → IsTree tree → kind_of tree f.object.0 ≡ Some kind → Asks by → outs.to ≡ to_requester (Some by) → (is_leaf kind ≡ false → is_down_response p outs.message ≡ true) → GivesAs p tree f outs (asker_of tree f.object.0 by) answer
 requester_as p tree f outs kind Processor lawful is asks goes response = nowhere_as p tree f outs processor (inl refl) (λ k lane which. ap (λ to. reaches tree f to k lane) goes ∙ processor_reached tree f k lane which)
 requester_as p tree f outs kind (Kid i) lawful is asks goes response = by_child (slice_get (children_of tree f.object.0) i) refl
   where

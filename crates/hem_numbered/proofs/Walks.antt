@@ -7,7 +7,7 @@ use Rattle.hem_base.specs.declared.ids.Firing.{Firing}
 use Rattle.hem_syntax.specs.Protocol.{Protocol}
 use Rattle.hem_template.specs.Template.{row_of}
 use Rattle.hem_template.specs.declared.row.Taking.TheVariants.{FromKids}
-use Rattle.hem_tree.specs.Tree.{Tree, IsLawful}
+use Rattle.hem_tree.specs.Tree.{Tree, IsTree}
 use Rattle.hem_system.specs.declared.lane.Lane.{Lane}
 use Rattle.hem_system.specs.declared.lane.Lane.TheVariants.{UpResponses, Requests}
 use Rattle.hem_system.specs.State.{State, Line, LineStep, Step, Effect, takes, reaches, fire, run, step_of, line_step_of, line_after, place_of_me}
@@ -113,7 +113,7 @@ walk_on p tree owner line mid new all is_new past f e place n es step rest early
         ap (λ l. slice_get ((all l).lists c.object c.lane) 0) (sym (eqb-true f.line.0 c.line both.0)) ∙ step.takes c.object c.lane other both.1
 
 -- the number of an event of a history
-pub event_number : (p : Protocol) (tree : Tree) (owner : ℕ → ℕ) (s mid : State) (all : ℕ → Numbers) (is_new : ℕ → Bool) (past : List Entry) (f : Firing) (place : ℕ) → IsLawful tree → AllHaveTemplates p → (it : IsMade p tree s f mid) → AreKnown p tree owner s all is_new past → HasNumber tree f it.effect.outs (all f.line.0).lists (λ y. y == place) (number_at tree (tags_of all) place (event_by f it.effect))
+pub event_number : (p : Protocol) (tree : Tree) (owner : ℕ → ℕ) (s mid : State) (all : ℕ → Numbers) (is_new : ℕ → Bool) (past : List Entry) (f : Firing) (place : ℕ) → IsTree tree → AllHaveTemplates p → (it : IsMade p tree s f mid) → AreKnown p tree owner s all is_new past → HasNumber tree f it.effect.outs (all f.line.0).lists (λ y. y == place) (number_at tree (tags_of all) place (event_by f it.effect))
 event_number p tree owner s mid all is_new past f place lawful templates it known =
     let of = firing_of p tree it.line f it.effect lawful templates (known.locks.line f.line.0 it.line it.there) it.possible in
     let acts = of.is.acts in
@@ -128,7 +128,7 @@ event_number p tree owner s mid all is_new past f place lawful templates it know
         let taken = of.is.acts.taken_kids ∙ ap (λ taking. takes_kids taking of.before) kids in
         some_taken p tree f of.kind of.rule (place_of_me tree f.object.0 f.me) of.before it.effect.after it.effect.outs it.line take_kids.0 of.is.fires take_kids.1 taken
 
-pub walk : (p : Protocol) (tree : Tree) (owner : ℕ → ℕ) (h : List Firing) (s new : State) (all : ℕ → Numbers) (is_new : ℕ → Bool) (past : List Entry) (place : ℕ) → IsLawful tree → AllHaveTemplates p → AreKnown p tree owner s all is_new past → run p tree s h ≡ Some new → ((y : ℕ) → place ≤ y → is_new y ≡ true) → OwnerFits owner place (events p tree s h) → IsWalked p tree owner new past (numbered_from p tree place (tags_of all) (events p tree s h)) (tags_of all)
+pub walk : (p : Protocol) (tree : Tree) (owner : ℕ → ℕ) (h : List Firing) (s new : State) (all : ℕ → Numbers) (is_new : ℕ → Bool) (past : List Entry) (place : ℕ) → IsTree tree → AllHaveTemplates p → AreKnown p tree owner s all is_new past → run p tree s h ≡ Some new → ((y : ℕ) → place ≤ y → is_new y ≡ true) → OwnerFits owner place (events p tree s h) → IsWalked p tree owner new past (numbered_from p tree place (tags_of all) (events p tree s h)) (tags_of all)
 walk p tree owner [] s new all is_new past place lawful templates known runs late fits =
     let same : s ≡ new = (let ends : Some s ≡ Some new = runs in cc) in
     record {

@@ -8,7 +8,7 @@ use Rattle.hem_object.specs.declared.state.Lock.{Lock}
 use Rattle.hem_syntax.specs.Protocol.{Protocol}
 use Rattle.hem_object.specs.Local.{Local}
 use Rattle.hem_template.specs.Template.{row_of}
-use Rattle.hem_tree.specs.Tree.{Tree, kind_of, IsLawful}
+use Rattle.hem_tree.specs.Tree.{Tree, kind_of, IsTree}
 use Rattle.hem_fire.specs.declared.outs.Outs.{Outs}
 use Rattle.hem_fire.specs.OneFire.{OneFire}
 use Rattle.hem_system.specs.declared.lane.Lane.{Lane}
@@ -35,7 +35,7 @@ pub record HasNumber (tree : Tree) (f : Firing) (outs : Outs) (lists : ℕ → L
 
 -- a rule of this template fires on a line within the bounds
 pub record IsFiring (p : Protocol) (tree : Tree) (f : Firing) (t : TemplateName) (kind : Kind) (rule : Rule) (before after : Local) (outs : Outs) (old new : Line) : Type 0 where
-  pub lawful : IsLawful tree
+  pub lawful : IsTree tree
   pub kind_is : kind_of tree f.object.0 ≡ Some kind
   pub own : is_own_child tree f.object.0 f.me ≡ true
   pub row : IsOfRow p kind rule t

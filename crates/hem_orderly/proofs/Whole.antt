@@ -6,7 +6,7 @@ use Rattle.hem_template.specs.declared.template_name.TemplateName.{TemplateName}
 use Rattle.hem_template.specs.declared.template_name.TemplateName.TheVariants.{ImmSelf, ImmDown, ImmUp, RqUp, RqUpSelf, RqUpDown, RqDownSelf, RqDownDown, RsDown, RsDownSelf, RsDownRqDown, RsUpDown, RsUpUp, RsUpSelf}
 use Rattle.hem_syntax.specs.Protocol.{Protocol}
 use Rattle.hem_syntax.specs.Lawful.{IsProtocol}
-use Rattle.hem_tree.specs.Tree.{Tree, IsLawful}
+use Rattle.hem_tree.specs.Tree.{Tree, IsTree}
 use Rattle.hem_work.specs.Work.{Work}
 use Rattle.hem_system.specs.State.{State, Runs, line_after, start}
 use Rattle.hem_trace.specs.Blocks.{Each}
@@ -112,7 +112,7 @@ tells_from p tree k (e ∷ es) [] = tt
 tells_from p tree k (e ∷ es) (n ∷ ns) = (refl, tells_from p tree (k + 1) es ns)
 
 -- in each history
-pub history_waits : (p : Protocol) (tree : Tree) (work : Work) (h : List Firing) (s : State) → IsProtocol p → IsLawful tree → AllHaveTemplates p → Runs p tree (start p tree work) h s → EachWaits p tree (entries_of p tree (start p tree work) h) (entries_of p tree (start p tree work) h)
+pub history_waits : (p : Protocol) (tree : Tree) (work : Work) (h : List Firing) (s : State) → IsProtocol p → IsTree tree → AllHaveTemplates p → Runs p tree (start p tree work) h s → EachWaits p tree (entries_of p tree (start p tree work) h) (entries_of p tree (start p tree work) h)
 history_waits p tree work h s protocol lawful templates runs =
     let first = start p tree work in
     let made = events p tree first h in
@@ -130,7 +130,7 @@ history_waits p tree work h s protocol lawful templates runs =
     (have_anchors es [] es refl (rising_from p tree 0 made (numbers_of tree made)))
 
 -- so each history has whole windows
-pub history_windows : (p : Protocol) (tree : Tree) (work : Work) (h : List Firing) (s : State) → IsProtocol p → IsLawful tree → AllHaveTemplates p → Runs p tree (start p tree work) h s → HasWholeWindows p tree (entries_of p tree (start p tree work) h)
+pub history_windows : (p : Protocol) (tree : Tree) (work : Work) (h : List Firing) (s : State) → IsProtocol p → IsTree tree → AllHaveTemplates p → Runs p tree (start p tree work) h s → HasWholeWindows p tree (entries_of p tree (start p tree work) h)
 history_windows p tree work h s protocol lawful templates runs =
     let made = events p tree (start p tree work) h in
     let es = entries_of p tree (start p tree work) h in

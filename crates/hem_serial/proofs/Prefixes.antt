@@ -27,13 +27,13 @@ prefix_runs p tree (suc n) (f ∷ h) s new runs =
 
 -- the invariant of locks holds in each state that a history reaches
 holds : (p : Protocol) (tree : Tree) (work : Work) (h : List Firing) (s : State) → IsHistory p tree work h s → AllLocksHold p tree s
-holds p tree work h s it = reached-holds p tree work h s it.protocol it.lawful (templated p it.disciplined) it.runs
+holds p tree work h s it = reached-holds p tree work h s it.protocol it.shape (templated p it.disciplined) it.runs
 
 -- a prefix of a history is one
 prefix : (p : Protocol) (tree : Tree) (work : Work) (h : List Firing) (s : State) (n : ℕ) → IsHistory p tree work h s → (mid : State) × IsHistory p tree work (take n h) mid
 prefix p tree work h s n it =
     let reached = prefix_runs p tree n h (start p tree work) s it.runs.leads in
-    (reached.0, record { protocol = it.protocol; disciplined = it.disciplined; lawful = it.lawful; runs = record { leads = reached.1 } })
+    (reached.0, record { protocol = it.protocol; disciplined = it.disciplined; shape = it.shape; runs = record { leads = reached.1 } })
 
 pub locks_throughout : (p : Protocol) (tree : Tree) (work : Work) (h : List Firing) (s : State) (n : ℕ) → IsHistory p tree work h s → (mid : State) × Runs p tree (start p tree work) (take n h) mid × AllLocksHold p tree mid
 locks_throughout p tree work h s n it =
@@ -44,8 +44,8 @@ pub short_throughout : (p : Protocol) (tree : Tree) (work : Work) (h : List Firi
 short_throughout p tree work h s n it =
     let reached = prefix p tree work h s n it in
     let locks = holds p tree work (take n h) reached.0 reached.1 in
-    (reached.0, reached.1.runs, record { few = λ l o line cell there at. few_messages p tree line o cell it.lawful (locks.line l line there) at })
+    (reached.0, reached.1.runs, record { few = λ l o line cell there at. few_messages p tree line o cell it.shape (locks.line l line there) at })
 
 -- the number of firings
 pub few_firings : (p : Protocol) (tree : Tree) (work : Work) (h : List Firing) (s : State) → IsHistory p tree work h s → length h ≤ 3 * length tree * starts p tree h
-few_firings p tree work h s it = let bound = reached_after p tree work h s it.lawful (templated p it.disciplined) it.runs in omega (arith, bound)
+few_firings p tree work h s it = let bound = reached_after p tree work h s it.shape (templated p it.disciplined) it.runs in omega (arith, bound)

@@ -4,7 +4,7 @@ use Rattle.hem_base.specs.declared.ids.Firing.{Firing}
 use Rattle.hem_syntax.specs.Protocol.{Protocol}
 use Rattle.hem_syntax.specs.Lawful.{IsProtocol}
 use Rattle.hem_check.specs.Discipline.{IsDisciplined}
-use Rattle.hem_tree.specs.Tree.{Tree, IsLawful}
+use Rattle.hem_tree.specs.Tree.{Tree, IsTree}
 use Rattle.hem_work.specs.Work.{Work}
 use Rattle.hem_system.specs.State.{Cell, Line, State, Runs, start}
 use Rattle.hem_trace.specs.Blocks.{Block}
@@ -12,11 +12,11 @@ use Rattle.hem_trace.specs.Order.{Entry, entries_of, normal, printed}
 use Rattle.hem_locks.specs.Clean.{AreFew}
 use Rattle.hem_law.specs.Printed.{firings_in, rows_of}
 
--- a history of a disciplined protocol on a lawful tree: firings that run from the start of the work to a state
+-- a history of a disciplined protocol on a finite tree: firings that run from the start of the work to a state
 pub record IsHistory (p : Protocol) (tree : Tree) (work : Work) (h : List Firing) (s : State) : Type 0 where
   pub protocol : IsProtocol p
   pub disciplined : IsDisciplined p
-  pub lawful : IsLawful tree
+  pub shape : IsTree tree
   pub runs : Runs p tree (start p tree work) h s
 
 -- the entries of a history from the start: its events, each with its place, its transaction's number and its object's level

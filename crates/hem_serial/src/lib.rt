@@ -16,7 +16,7 @@ ghost use Rattle.hem_together.specs.HaveRoles.{GoOneWay};
 ghost use Rattle.hem_bound.specs.Starts.{starts};
 ghost use Rattle.hem_serial.specs.Histories.{IsHistory, ListsAreShort, entries, printed_blocks, normal_entries, normal_order, normal_rows};
 
-/// Serializability. Of a history of a disciplined protocol, on a lawful tree, that runs from the start to a state: its
+/// Serializability. Of a history of a disciplined protocol, on a finite tree, that runs from the start to a state: its
 /// blocks in the printed order are serial and lead to that state, and they have the same firings.
 pub fn histories_are_serializable()
     ensures serial { (p : Protocol) (tree : Tree) (work : Work) (h : List Firing) (s : State) → IsHistory p tree work h s → IsSerial p tree (start p tree work) (printed_blocks p tree work h) s }

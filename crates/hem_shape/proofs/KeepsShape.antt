@@ -2,7 +2,7 @@
 use Rattle.std.proofs.Common.{◌≡◌, ℕ, Bool, true, ◌++◌, ◌||◌, [], ◌∷◌, List, refl, sym, ap, ◌∙◌, subst, Some, None, inl, inr}
 use Rattle.hem_template.specs.declared.template_name.TemplateName.{TemplateName}
 use Rattle.hem_template.specs.declared.template_name.TemplateName.TheVariants.{RqUp, RqUpSelf, RqUpDown, RqDownSelf, RqDownDown, RsDownRqDown}
-use Rattle.hem_tree.specs.Tree.{Tree, IsLawful, is_child}
+use Rattle.hem_tree.specs.Tree.{Tree, IsTree, is_child}
 use Rattle.hem_tree.proofs.Paths.{IsEarly}
 use Rattle.hem_tree.proofs.Early.{lawful_early}
 use Rattle.hem_shape.specs.Subtree.{InSubtree}
@@ -110,5 +110,5 @@ kept tree early o parent child_answers answer t at shape named can to = answered
 kept tree early o itself child_answers answer t at shape named can to = answered tree (taken tree o itself child_answers at) o itself t (answers_taken tree at o itself shape can) (answers_waits tree early at o itself shape can)
 kept tree early o _ _ _ t at shape named can to = absurd (let bad : None ≡ Some t = named in cc)
 
-pub shape_kept : (tree : Tree) (m : Move) (t : TemplateName) (at : Progress) → IsLawful tree → HasShape tree at → CanMove tree m t at → HasShape tree (progress_after tree m t at)
+pub shape_kept : (tree : Tree) (m : Move) (t : TemplateName) (at : Progress) → IsTree tree → HasShape tree at → CanMove tree m t at → HasShape tree (progress_after tree m t at)
 shape_kept tree m t at law shape can = kept tree (lawful_early tree law) m.object m.asker m.takes m.gives t at shape can.named can.takes can.gives

@@ -2,7 +2,7 @@
 use Rattle.std.proofs.Common.{◌≡◌, ◌≢◌, ◌<◌, arith, ℕ, true, false, List, [], ◌∷◌, ◌++◌, refl, sym, ap, ◌∙◌, subst, Some, None, ⊎_elim, inl, inr, ◌⊎◌}
 use Rattle.hem_template.specs.declared.template_name.TemplateName.{TemplateName}
 use Rattle.hem_template.specs.declared.template_name.TemplateName.TheVariants.{ImmSelf, ImmDown, ImmUp, RqUp, RqUpSelf, RqUpDown, RqDownSelf, RqDownDown, RsDown, RsDownSelf, RsDownRqDown, RsUpDown, RsUpUp, RsUpSelf}
-use Rattle.hem_tree.specs.Tree.{Tree, parent_of, IsLawful}
+use Rattle.hem_tree.specs.Tree.{Tree, parent_of, IsTree}
 use Rattle.hem_tree.proofs.Paths.{IsEarly}
 use Rattle.hem_tree.proofs.Early.{lawful_early}
 use Rattle.hem_shape.specs.Subtree.{InSubtree}
@@ -304,7 +304,7 @@ fallen tree m t at made shape can falls =
     })))
     (up_gives m.takes m.asker m.gives t can.named)
 
-pub phases_go_on : (tree : Tree) (m : Move) (t : TemplateName) (at : Progress) (made : List Made) → IsLawful tree → HasShape tree at → CanMove tree m t at → HasPhases tree at made → HasPhases tree (progress_after tree m t at) (made ++ made_by m t ∷ [])
+pub phases_go_on : (tree : Tree) (m : Move) (t : TemplateName) (at : Progress) (made : List Made) → IsTree tree → HasShape tree at → CanMove tree m t at → HasPhases tree at made → HasPhases tree (progress_after tree m t at) (made ++ made_by m t ∷ [])
 phases_go_on tree m t at made lawful shape can (inl unbegun) = begun tree m t at made shape can unbegun
 phases_go_on tree m t at made lawful shape can (inr (inl rises)) = risen tree (lawful_early tree lawful) m t at made shape can rises
 phases_go_on tree m t at made lawful shape can (inr (inr falls)) = fallen tree m t at made shape can falls

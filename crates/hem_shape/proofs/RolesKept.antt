@@ -2,7 +2,7 @@
 use Rattle.std.proofs.Common.{◌≡◌, ℕ, ◌+◌, ◌≤◌, true, List, [], ◌∷◌, ◌++◌, length, refl, ap, ◌∙◌, arith, Some, None, ⊎_elim, inl, inr, ◌⊎◌}
 use Rattle.hem_template.specs.declared.template_name.TemplateName.{TemplateName}
 use Rattle.hem_template.specs.declared.template_name.TemplateName.TheVariants.{ImmSelf, ImmDown, ImmUp, RqUp, RqUpSelf, RqUpDown, RqDownSelf, RqDownDown, RsDown, RsDownSelf, RsDownRqDown, RsUpDown, RsUpUp, RsUpSelf}
-use Rattle.hem_tree.specs.Tree.{Tree, IsLawful}
+use Rattle.hem_tree.specs.Tree.{Tree, IsTree}
 use Rattle.hem_tree.proofs.Paths.{IsEarly}
 use Rattle.hem_tree.proofs.Early.{lawful_early}
 use Rattle.hem_shape.specs.Progress.{Asker, child, processor, parent, itself, Progress, IsBlank}
@@ -96,7 +96,7 @@ role_now tree early o parent child_answers answer t at shape named can = role_fr
 role_now tree early o itself child_answers answer t at shape named can = role_from (at.fired o) (RqDownSelf ∷ []) t RsUpSelf (shape.asked o itself can.down) (let is : t ≡ RsUpSelf = cc in is) refl
 role_now tree early o _ _ _ t at shape named can = absurd (let bad : None ≡ Some t = named in cc)
 
-pub roles_kept : (tree : Tree) (m : Move) (t : TemplateName) (at : Progress) → IsLawful tree → HasShape tree at → CanMove tree m t at → HasRoles at → HasRoles (progress_after tree m t at)
+pub roles_kept : (tree : Tree) (m : Move) (t : TemplateName) (at : Progress) → IsTree tree → HasShape tree at → CanMove tree m t at → HasRoles at → HasRoles (progress_after tree m t at)
 roles_kept tree m t at lawful shape can roles =
     let now = at.fired m.object ++ t ∷ [] in
     record {

@@ -2,7 +2,7 @@
 use Rattle.std.proofs.Common.{◌≡◌, ◌≢◌, ℕ, zero, suc, List, [], ◌∷◌, ◌++◌, length, refl, sym, ap, ◌∙◌, subst, arith, Some, None, ⊎_elim, inl, inr, ◌⊎◌}
 use Rattle.std.specs.Prelude.{slice_get}
 use Rattle.hem_template.specs.declared.template_name.TemplateName.{TemplateName}
-use Rattle.hem_tree.specs.Tree.{Tree, parent_of, IsLawful}
+use Rattle.hem_tree.specs.Tree.{Tree, parent_of, IsTree}
 use Rattle.hem_tree.proofs.Paths.{IsEarly}
 use Rattle.hem_tree.proofs.Early.{lawful_early}
 use Rattle.hem_shape.specs.Progress.{Asker, child, processor, parent, itself, Progress}
@@ -104,7 +104,7 @@ above_fired tree o high itself request at shape can above is asks = absurd (let 
 above_fired tree o high asker parent_answer at shape can above is asks = absurd (let bad : parent_answer ≡ request = is in cc)
 above_fired tree o high asker child_answers at shape can above is asks = absurd (let bad : child_answers ≡ request = is in cc)
 
-pub ways_kept : (tree : Tree) (m : Move) (t : TemplateName) (at : Progress) (moves : List Move) → IsLawful tree → HasShape tree at → CanMove tree m t at → HasWays tree at moves → HasWays tree (progress_after tree m t at) (moves ++ m ∷ [])
+pub ways_kept : (tree : Tree) (m : Move) (t : TemplateName) (at : Progress) (moves : List Move) → IsTree tree → HasShape tree at → CanMove tree m t at → HasWays tree at moves → HasWays tree (progress_after tree m t at) (moves ++ m ∷ [])
 ways_kept tree m t at moves lawful shape can ways =
     let early = lawful_early tree lawful in
     record {

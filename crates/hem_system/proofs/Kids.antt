@@ -87,7 +87,7 @@ at_child tree o i k there = at_passes (λ k. is_child tree k o) (length tree) i 
 
 -- no object is its own child
 own_child : (tree : Tree) → IsLawful tree → (o : ℕ) (b : Bool) → is_child tree o o ≡ b → b ≡ false
-own_child tree lawful o true is = absurd (let before = (lawful_early tree lawful).early o o (parent_is tree o o is) in omega arith)
+own_child tree lawful o true is = absurd (let before = (lawful_early tree lawful.shape).early o o (parent_is tree o o is) in omega arith)
 own_child tree lawful o false is = refl
 
 pub not_own_child : (tree : Tree) → IsLawful tree → (o : ℕ) → is_child tree o o ≡ false

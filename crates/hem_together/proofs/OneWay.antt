@@ -7,7 +7,7 @@ use Rattle.hem_syntax.specs.Protocol.{Protocol}
 use Rattle.hem_syntax.specs.Lawful.{IsProtocol}
 use Rattle.hem_template.specs.declared.template_name.TemplateName.{TemplateName}
 use Rattle.hem_template.specs.declared.template_name.TemplateName.TheVariants.{ImmSelf, ImmDown, ImmUp, RqUp, RqUpSelf, RqUpDown, RqDownSelf, RqDownDown, RsDown, RsDownSelf, RsDownRqDown, RsUpDown, RsUpUp, RsUpSelf}
-use Rattle.hem_tree.specs.Tree.{Tree, IsLawful}
+use Rattle.hem_tree.specs.Tree.{Tree, IsTree}
 use Rattle.hem_work.specs.Work.{Work}
 use Rattle.hem_system.specs.State.{State, Runs, start}
 use Rattle.hem_trace.specs.Order.{entries_of}
@@ -63,7 +63,7 @@ role_one_way (t ∷ ts) role up down =
     let goes = (both (begins_role t) (goes_on t ts) role).1 in
     not_both t (first_passes asks_above asking_begins t ts goes up) (first_passes serves_above serving_begins t ts goes down)
 
-pub one_way : (p : Protocol) (tree : Tree) (work : Work) (h : List Firing) (s : State) → IsProtocol p → IsLawful tree → AllHaveTemplates p → Runs p tree (start p tree work) h s → GoOneWay p tree (entries_of p tree (start p tree work) h)
+pub one_way : (p : Protocol) (tree : Tree) (work : Work) (h : List Firing) (s : State) → IsProtocol p → IsTree tree → AllHaveTemplates p → Runs p tree (start p tree work) h s → GoOneWay p tree (entries_of p tree (start p tree work) h)
 one_way p tree work h s protocol lawful templates runs l o t up down =
     let role = history_roles p tree work h s protocol lawful templates runs l o t in
     role_one_way role.0 role.2 (ap (list_any asks_above) (sym role.1) ∙ up) (ap (list_any serves_above) (sym role.1) ∙ down)

@@ -5,7 +5,7 @@ use Rattle.std.proofs.str.Laws.{order}
 use Rattle.hem_base.specs.declared.ids.ObjectId.{ObjectId}
 use Rattle.hem_tree.specs.declared.objects.Object.{Object}
 use Rattle.hem_tree.specs.Objects.{IsObjectOf}
-use Rattle.hem_tree.specs.Tree.{Tree, parent_of, path_up, IsLawful}
+use Rattle.hem_tree.specs.Tree.{Tree, parent_of, path_up, IsTree}
 use Rattle.hem_tree.proofs.Paths.{IsEarly, cases_of, path_none, path_some}
 
 -- the objects up to n have their parents before them
@@ -30,10 +30,10 @@ path_before (suc f) tree n o m up le c =
     (λ some. let lt = up o some.0 le some.1 in ⊎_elim (λ head. omega arith) (λ rest. let more = path_before f tree n some.0 m up (omega arith) rest in omega arith) (head_or_rest some.0 m _ (subst (λ l. Contains l m) (path_some f tree o some.0 some.1) c)))
     (cases_of (parent_of tree o))
 
-root_alone : (tree : Tree) → IsLawful tree → (k m : ℕ) → k ≡ 0 → parent_of tree k ≡ Some m → ⊥
+root_alone : (tree : Tree) → IsTree tree → (k m : ℕ) → k ≡ 0 → parent_of tree k ≡ Some m → ⊥
 root_alone tree law k m e h = let none : parent_of tree 0 ≡ None = rw law.root refl in let some = ap (parent_of tree) (sym e) ∙ h in cc
 
-up_to : (tree : Tree) → IsLawful tree → (n : ℕ) → UpTo tree n
+up_to : (tree : Tree) → IsTree tree → (n : ℕ) → UpTo tree n
 up_to tree law zero k m le h = absurd (root_alone tree law k m (omega arith) h)
 up_to tree law (suc n) k m le h = ⊎_elim (λ lt. up_to tree law n k m (omega arith) h) (λ ge. last (up_to tree law n) (omega arith)) (order k (suc n))
   where
@@ -42,7 +42,7 @@ up_to tree law (suc n) k m le h = ⊎_elim (λ lt. up_to tree law n k m (omega a
         ⊎_elim (λ head. omega arith) (λ rest. let lt = path_before (length tree) tree n n m up (omega arith) rest in omega arith)
         (head_or_rest n m _ (law.preorder n m (ap (parent_of tree) (sym same) ∙ h)))
 
-pub lawful_early : (tree : Tree) → IsLawful tree → IsEarly tree
+pub lawful_early : (tree : Tree) → IsTree tree → IsEarly tree
 lawful_early tree law = record { early = λ k m h. up_to tree law k k m (omega arith) h }
 
 -- the parent that is kept of an object

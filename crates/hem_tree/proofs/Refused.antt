@@ -159,11 +159,13 @@ module _ (nodes : List RawNode) (raw : IsRawTree nodes) where
   -- where no object passes a limit, the tree is lawful
   pub lawful : ((k : ℕ) → k < length nodes → passed_at (tree_of nodes) k ≡ None) → IsLawful (tree_of nodes)
   lawful none = record {
-    root = rw (get_tree nodes 0, raw.first.1, raw.first.2) refl;
-    one_root = only_root;
-    parents = λ o some lt. let m = has_parent (levels_of nodes raw) o some (omega (arith, length_tree nodes)) in (m.0, parent_by_level nodes raw o (omega (arith, length_tree nodes)) ∙ m.1);
-    preorder = preorder;
-    leaves = leaves;
+    shape = record {
+      root = rw (get_tree nodes 0, raw.first.1, raw.first.2) refl;
+      one_root = only_root;
+      parents = λ o some lt. let m = has_parent (levels_of nodes raw) o some (omega (arith, length_tree nodes)) in (m.0, parent_by_level nodes raw o (omega (arith, length_tree nodes)) ∙ m.1);
+      preorder = preorder;
+      leaves = leaves;
+    };
     objects = few_objects;
     children = λ o. omega (arith, few_children o);
     levels = λ o lt. (within_at (tree_of nodes) o (none o (omega (arith, length_tree nodes)))).levels;

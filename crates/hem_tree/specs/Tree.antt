@@ -60,13 +60,17 @@ level_of tree o = length (path_of tree o) + 1
 abbrev pub IsUnder : Tree → ℕ → ℕ → Type 0
 IsUnder tree low high = Contains (path_of tree low) high
 
--- a tree that a protocol can run on: one root, all others below it in preorder, the leaves alone without children, within the limits
-pub record IsLawful (tree : Tree) : Type 0 where
+-- a finite tree: one root, all others below it in preorder, the leaves alone without children
+pub record IsTree (tree : Tree) : Type 0 where
   pub root : slice_get tree 0 ≡ Some (record { kind = Root; parent = None })
   pub one_root : (o : ℕ) → kind_of tree o ≡ Some Root → o ≡ 0
   pub parents : (o : ℕ) → 0 < o → o < length tree → (high : ℕ) × (parent_of tree o ≡ Some high)
   pub preorder : (o high : ℕ) → parent_of tree (o + 1) ≡ Some high → Contains (o ∷ path_of tree o) high
   pub leaves : (o : ℕ) → o < length tree → (kind_of tree o ≡ Some Leaf) ↔ (children_of tree o ≡ [])
+
+-- a lawful tree: a finite tree within the limits
+pub record IsLawful (tree : Tree) : Type 0 where
+  pub shape : IsTree tree
   pub objects : length tree ≤ most_objects
   pub children : (o : ℕ) → length (children_of tree o) ≤ most_children
   pub levels : (o : ℕ) → o < length tree → level_of tree o ≤ most_levels

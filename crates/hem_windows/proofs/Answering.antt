@@ -10,7 +10,7 @@ use Rattle.hem_syntax.specs.Protocol.{Protocol}
 use Rattle.hem_object.specs.Local.{Local}
 use Rattle.hem_template.specs.Template.{row_of}
 use Rattle.hem_template.specs.declared.row.Taking.TheVariants.{ParentResponse}
-use Rattle.hem_tree.specs.Tree.{Tree, IsLawful, is_child, place_among}
+use Rattle.hem_tree.specs.Tree.{Tree, IsTree, is_child, place_among}
 use Rattle.hem_tree.proofs.Early.{lawful_early}
 use Rattle.hem_system.specs.declared.lane.Lane.TheVariants.{UpRequests, Down}
 use Rattle.hem_system.specs.State.{Cell, Line, Effect, takes, reaches, heads_of, head_at, place_of_me, cell_after, line_after}
@@ -115,7 +115,7 @@ head_takes p tree line f e high lows holds it answering =
     (λ m at. no_request_head p c answering.upper cell edge stands m (sym (head_of line o cell Down answering.there) ∙ at)) it.acts
 
 -- objects of a line of objects stand below its first
-below_first : (tree : Tree) (line : Line) (high : ℕ) (lows : List ℕ) (k : ℕ) → IsLawful tree → AreInLine tree line high lows → IsOneOf k lows → high < k
+below_first : (tree : Tree) (line : Line) (high : ℕ) (lows : List ℕ) (k : ℕ) → IsTree tree → AreInLine tree line high lows → IsOneOf k lows → high < k
 below_first tree line high [] k lawful works none = absurd none
 below_first tree line high (low ∷ lows) k lawful works (inl is) = let early = (lawful_early tree lawful).early low high works.0.parent in omega (arith, is)
 below_first tree line high (low ∷ lows) k lawful works (inr rest) =
@@ -152,7 +152,7 @@ responses_stay p tree f e k cell other =
     last_false false b is = refl
 
 -- a firing of another object leaves the answer on its way
-pub answering_stays : (p : Protocol) (tree : Tree) (line : Line) (f : Firing) (e : Effect) (high top : ℕ) (lows : List ℕ) → IsLawful tree → LocksHold p tree line → LocksHold p tree (line_after tree f e line) → IsActed p tree line f e → IsAnswering p tree line high top lows → ((k : ℕ) → IsOneOf k (top ∷ lows) → k ≢ f.object.0) → IsAnswering p tree (line_after tree f e line) high top lows
+pub answering_stays : (p : Protocol) (tree : Tree) (line : Line) (f : Firing) (e : Effect) (high top : ℕ) (lows : List ℕ) → IsTree tree → LocksHold p tree line → LocksHold p tree (line_after tree f e line) → IsActed p tree line f e → IsAnswering p tree line high top lows → ((k : ℕ) → IsOneOf k (top ∷ lows) → k ≢ f.object.0) → IsAnswering p tree (line_after tree f e line) high top lows
 answering_stays p tree line f e high top lows lawful holds kept it answering others =
     let c = place_among tree high top in
     let upper = answering.upper in
@@ -209,7 +209,7 @@ answering_stays p tree line f e high top lows lawful holds kept it answering oth
             omega arith
 
 -- the firing of the head hands the answer on to the next
-pub answering_falls : (p : Protocol) (tree : Tree) (line : Line) (f : Firing) (e : Effect) (high low : ℕ) (lows : List ℕ) → IsLawful tree → LocksHold p tree line → LocksHold p tree (line_after tree f e line) → IsActed p tree line f e → IsAnswering p tree line high f.object.0 (low ∷ lows) → IsAnswering p tree (line_after tree f e line) f.object.0 low lows
+pub answering_falls : (p : Protocol) (tree : Tree) (line : Line) (f : Firing) (e : Effect) (high low : ℕ) (lows : List ℕ) → IsTree tree → LocksHold p tree line → LocksHold p tree (line_after tree f e line) → IsActed p tree line f e → IsAnswering p tree line high f.object.0 (low ∷ lows) → IsAnswering p tree (line_after tree f e line) f.object.0 low lows
 answering_falls p tree line f e high low lows lawful holds kept it answering =
     let o = f.object.0 in
     let c = place_among tree o low in
@@ -251,7 +251,7 @@ record Final (e : Effect) : Type 0 where
   up : e.after.up ≡ None
 
 -- a firing that takes the pending request and doesn't send it on begins the answer
-pub answering_begins : (p : Protocol) (tree : Tree) (line : Line) (f : Firing) (e : Effect) (top : ℕ) (lows : List ℕ) → IsLawful tree → LocksHold p tree line → LocksHold p tree (line_after tree f e line) → IsActed p tree line f e → IsPending tree line top lows → takes_of top f ≡ true → HasTemplate p tree f ImmDown ⊎ HasTemplate p tree f RqUpDown → IsAnswering p tree (line_after tree f e line) f.object.0 top lows
+pub answering_begins : (p : Protocol) (tree : Tree) (line : Line) (f : Firing) (e : Effect) (top : ℕ) (lows : List ℕ) → IsTree tree → LocksHold p tree line → LocksHold p tree (line_after tree f e line) → IsActed p tree line f e → IsPending tree line top lows → takes_of top f ≡ true → HasTemplate p tree f ImmDown ⊎ HasTemplate p tree f RqUpDown → IsAnswering p tree (line_after tree f e line) f.object.0 top lows
 answering_begins p tree line f e top lows lawful holds kept it pending taken has =
     let o = f.object.0 in
     let child = child_named tree top f f.me refl taken in

@@ -3,7 +3,7 @@ use Rattle.std.proofs.Common.{◌≡◌, ◌≢◌, ap, sym, ◌∙◌, subst, �
 use Rattle.hem_base.specs.declared.ids.Firing.{Firing}
 use Rattle.hem_template.specs.declared.template_name.TemplateName.TheVariants.{ImmDown, RqUpDown}
 use Rattle.hem_syntax.specs.Protocol.{Protocol}
-use Rattle.hem_tree.specs.Tree.{Tree, IsLawful}
+use Rattle.hem_tree.specs.Tree.{Tree, IsTree}
 use Rattle.hem_system.specs.State.{Line, LineStep, Effect, effect_of, line_after, line_step_of, run_line}
 use Rattle.hem_rows.specs.Rows.{AllHaveTemplates}
 use Rattle.hem_locks.specs.Edges.{LocksHold}
@@ -16,7 +16,7 @@ use Rattle.hem_windows.specs.Pending.{IsPending, IsOneOf, takes_of}
 use Rattle.hem_windows.specs.Answering.{IsAnswering, FireInTurn}
 use Rattle.hem_windows.proofs.Answering.{lows_silent, head_takes, answering_stays, answering_falls, answering_begins}
 
-pub in_turn : (p : Protocol) (tree : Tree) (h : List Firing) (line new : Line) (high top : ℕ) (lows : List ℕ) → IsLawful tree → AllHaveTemplates p → LocksHold p tree line → IsAnswering p tree line high top lows → run_line p tree line h ≡ Some new → FireInTurn p tree (top ∷ lows) h
+pub in_turn : (p : Protocol) (tree : Tree) (h : List Firing) (line new : Line) (high top : ℕ) (lows : List ℕ) → IsTree tree → AllHaveTemplates p → LocksHold p tree line → IsAnswering p tree line high top lows → run_line p tree line h ≡ Some new → FireInTurn p tree (top ∷ lows) h
 in_turn p tree [] line new high top lows lawful templates holds answering runs = tt
 in_turn p tree (f ∷ h) line new high top lows lawful templates holds answering runs =
     let step = if_some (λ (step : LineStep). run_line p tree step.next h) (line_step_of p tree line f) new runs in
@@ -46,7 +46,7 @@ in_turn p tree (f ∷ h) line new high top lows lawful templates holds answering
     not_one other silent k (inr one) same = silent (subst (λ k. IsOneOf k lows) same one)
 
 -- from the firing on that takes the pending request and doesn't send it on
-pub in_turn_from : (p : Protocol) (tree : Tree) (line new : Line) (f : Firing) (e : Effect) (top : ℕ) (lows : List ℕ) (h : List Firing) → IsLawful tree → AllHaveTemplates p → LocksHold p tree line → IsPending tree line top lows → takes_of top f ≡ true → HasTemplate p tree f ImmDown ⊎ HasTemplate p tree f RqUpDown → effect_of p tree line f ≡ Some e → run_line p tree (line_after tree f e line) h ≡ Some new → FireInTurn p tree (top ∷ lows) h
+pub in_turn_from : (p : Protocol) (tree : Tree) (line new : Line) (f : Firing) (e : Effect) (top : ℕ) (lows : List ℕ) (h : List Firing) → IsTree tree → AllHaveTemplates p → LocksHold p tree line → IsPending tree line top lows → takes_of top f ≡ true → HasTemplate p tree f ImmDown ⊎ HasTemplate p tree f RqUpDown → effect_of p tree line f ≡ Some e → run_line p tree (line_after tree f e line) h ≡ Some new → FireInTurn p tree (top ∷ lows) h
 in_turn_from p tree line new f e top lows h lawful templates holds pending taken has possible runs =
     let kept = line_kept p tree line f e lawful templates possible holds in
     let it = acted p tree line f e templates possible in

@@ -14,7 +14,7 @@ use Rattle.hem_object.specs.Local.{Local}
 use Rattle.hem_template.specs.Template.{row_of, template_of}
 use Rattle.hem_fire.specs.View.{requester}
 use Rattle.hem_fire.specs.declared.outs.To.{To}
-use Rattle.hem_tree.specs.Tree.{Tree, IsLawful, parent_of, is_number, is_child, place_among}
+use Rattle.hem_tree.specs.Tree.{Tree, IsTree, parent_of, is_number, is_child, place_among}
 use Rattle.hem_system.specs.declared.lane.Lane.TheVariants.{UpRequests}
 use Rattle.hem_system.specs.State.{Cell, Line, Effect, takes, reaches, heads_of, place_of_me, cell_after, line_after}
 use Rattle.hem_system.proofs.Takers.{parent_is}
@@ -69,7 +69,7 @@ still_asks tree f e k cell not =
     omega (arith, size, same)
 
 -- a firing that doesn't take the pending request leaves it pending
-pub pending_stays : (p : Protocol) (tree : Tree) (line : Line) (f : Firing) (e : Effect) (top : ℕ) (lows : List ℕ) → IsLawful tree → LocksHold p tree line → IsActed p tree line f e → IsPending tree line top lows → takes_of top f ≡ false → IsPending tree (line_after tree f e line) top lows
+pub pending_stays : (p : Protocol) (tree : Tree) (line : Line) (f : Firing) (e : Effect) (top : ℕ) (lows : List ℕ) → IsTree tree → LocksHold p tree line → IsActed p tree line f e → IsPending tree line top lows → takes_of top f ≡ false → IsPending tree (line_after tree f e line) top lows
 pending_stays p tree line f e top lows lawful holds it pending not =
     let none : takes tree f e.outs top UpRequests ≡ false = not_taken e.outs.taken_request (takes_of top f) (is_child tree top f.object.0) not in
     record {
@@ -103,12 +103,12 @@ pub child_named : (tree : Tree) (top : ℕ) (f : Firing) (me : Option ObjectId) 
 child_named tree top f None is takes = cc
 child_named tree top f (Some child) is takes = (child, is, eqb-true child.0 top takes)
 
-pub no_self_child : (tree : Tree) → IsLawful tree → (o : ℕ) (parent : Option ℕ) → parent_of tree o ≡ parent → is_child tree o o ≡ false
+pub no_self_child : (tree : Tree) → IsTree tree → (o : ℕ) (parent : Option ℕ) → parent_of tree o ≡ parent → is_child tree o o ≡ false
 no_self_child tree lawful o None is = ap (λ (x : Option ℕ). is_number x o) is
 no_self_child tree lawful o (Some high) is = not_own_child tree lawful o high is
 
 -- a firing that takes the pending request and sends it on leaves the next one pending
-pub pending_rises : (p : Protocol) (tree : Tree) (line : Line) (f : Firing) (e : Effect) (top : ℕ) (lows : List ℕ) → IsLawful tree → LocksHold p tree line → IsActed p tree line f e → IsPending tree line top lows → takes_of top f ≡ true → HasTemplate p tree f RqUp → IsPending tree (line_after tree f e line) f.object.0 (top ∷ lows)
+pub pending_rises : (p : Protocol) (tree : Tree) (line : Line) (f : Firing) (e : Effect) (top : ℕ) (lows : List ℕ) → IsTree tree → LocksHold p tree line → IsActed p tree line f e → IsPending tree line top lows → takes_of top f ≡ true → HasTemplate p tree f RqUp → IsPending tree (line_after tree f e line) f.object.0 (top ∷ lows)
 pending_rises p tree line f e top lows lawful holds it pending taken has =
     let o = f.object.0 in
     let me = place_of_me tree o f.me in

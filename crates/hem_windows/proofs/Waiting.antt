@@ -10,7 +10,7 @@ use Rattle.hem_object.specs.Local.{Local}
 use Rattle.hem_template.specs.Template.{row_of}
 use Rattle.hem_fire.specs.declared.outs.Outs.{Outs}
 use Rattle.hem_fire.specs.Heads.{Heads}
-use Rattle.hem_tree.specs.Tree.{Tree, IsLawful, parent_of, place_among}
+use Rattle.hem_tree.specs.Tree.{Tree, IsTree, parent_of, place_among}
 use Rattle.hem_tree.proofs.Early.{lawful_early}
 use Rattle.std.proofs.lemmas.Option.{slice_get_within}
 use Rattle.hem_system.specs.State.{Cell, Line, Effect}
@@ -42,7 +42,7 @@ waiting_by p c high low holds one =
     (omega arith, omega arith)
 
 -- the object whose request isn't taken yet
-top_waits : (p : Protocol) (tree : Tree) (line : Line) (top : ℕ) (lows : List ℕ) → IsLawful tree → LocksHold p tree line → IsPending tree line top lows → IsWaiting p line top
+top_waits : (p : Protocol) (tree : Tree) (line : Line) (top : ℕ) (lows : List ℕ) → IsTree tree → LocksHold p tree line → IsPending tree line top lows → IsWaiting p line top
 top_waits p tree line top lows lawful holds pending = by_parent (parent_of tree top) refl
   where
     by_parent : (parent : Option ℕ) → parent_of tree top ≡ parent → IsWaiting p line top
@@ -58,7 +58,7 @@ top_waits p tree line top lows lawful holds pending = by_parent (parent_of tree 
         record { cell = pending.cell; at = pending.there; lock = lock.0; up = lock.1; none = it.1 }
 
 -- an object for which its parent works
-low_waits : (p : Protocol) (tree : Tree) (line : Line) (high low : ℕ) → IsLawful tree → LocksHold p tree line → WorksFor tree line high low → (cell : Cell) → slice_get line low ≡ Some cell → IsWaiting p line low
+low_waits : (p : Protocol) (tree : Tree) (line : Line) (high low : ℕ) → IsTree tree → LocksHold p tree line → WorksFor tree line high low → (cell : Cell) → slice_get line low ≡ Some cell → IsWaiting p line low
 low_waits p tree line high low lawful holds works cell at =
     let c = place_among tree high low in
     let one : for_kid c works.cell.local.up ≡ 1 = ap (for_kid c) works.up ∙ ap (is_kid c) works.holder ∙ same c in
@@ -70,18 +70,18 @@ low_waits p tree line high low lawful holds works cell at =
     same c = grind arith
 
 -- each object of the path
-chain_waits : (p : Protocol) (tree : Tree) (line : Line) (high : ℕ) (lows : List ℕ) (o : ℕ) (cell : Cell) → IsLawful tree → LocksHold p tree line → AreInLine tree line high lows → IsOneOf o lows → slice_get line o ≡ Some cell → IsWaiting p line o
+chain_waits : (p : Protocol) (tree : Tree) (line : Line) (high : ℕ) (lows : List ℕ) (o : ℕ) (cell : Cell) → IsTree tree → LocksHold p tree line → AreInLine tree line high lows → IsOneOf o lows → slice_get line o ≡ Some cell → IsWaiting p line o
 chain_waits p tree line high [] o cell lawful holds works none at = absurd none
 chain_waits p tree line high (low ∷ lows) o cell lawful holds works (inl same) at =
     subst (λ k. slice_get line k ≡ Some cell → IsWaiting p line k) (sym same) (λ at. low_waits p tree line high low lawful holds works.0 cell at) at
 chain_waits p tree line high (low ∷ lows) o cell lawful holds works (inr rest) at = chain_waits p tree line low lows o cell lawful holds works.1 rest at
 
-pub path_waits : (p : Protocol) (tree : Tree) (line : Line) (top : ℕ) (lows : List ℕ) (o : ℕ) (cell : Cell) → IsLawful tree → LocksHold p tree line → IsPending tree line top lows → IsOneOf o (top ∷ lows) → slice_get line o ≡ Some cell → IsWaiting p line o
+pub path_waits : (p : Protocol) (tree : Tree) (line : Line) (top : ℕ) (lows : List ℕ) (o : ℕ) (cell : Cell) → IsTree tree → LocksHold p tree line → IsPending tree line top lows → IsOneOf o (top ∷ lows) → slice_get line o ≡ Some cell → IsWaiting p line o
 path_waits p tree line top lows o cell lawful holds pending (inl same) at = subst (λ k. IsWaiting p line k) (sym same) (top_waits p tree line top lows lawful holds pending)
 path_waits p tree line top lows o cell lawful holds pending (inr rest) at = chain_waits p tree line top lows o cell lawful holds pending.works rest at
 
 -- an object that waits and fires serves its parent
-pub waiting_fires : (p : Protocol) (tree : Tree) (line : Line) (f : Firing) (e : Effect) → IsLawful tree → LocksHold p tree line → (it : IsActed p tree line f e) → IsWaiting p line f.object.0 → ServesParent it.template
+pub waiting_fires : (p : Protocol) (tree : Tree) (line : Line) (f : Firing) (e : Effect) → IsTree tree → LocksHold p tree line → (it : IsActed p tree line f e) → IsWaiting p line f.object.0 → ServesParent it.template
 waiting_fires p tree line f e lawful holds it waits = by_parent (parent_of tree f.object.0) refl
   where
     by_parent : (parent : Option ℕ) → parent_of tree f.object.0 ≡ parent → ServesParent it.template

@@ -13,7 +13,7 @@ use Rattle.hem_template.specs.Template.{row_of}
 use Rattle.hem_fire.specs.declared.outs.To.{To}
 use Rattle.hem_fire.specs.declared.outs.Outs.{Outs}
 use Rattle.hem_fire.specs.Heads.{Heads}
-use Rattle.hem_tree.specs.Tree.{Tree, IsLawful, parent_of, is_child}
+use Rattle.hem_tree.specs.Tree.{Tree, IsTree, parent_of, is_child}
 use Rattle.hem_system.specs.declared.lane.Lane.TheVariants.{UpRequests}
 use Rattle.hem_system.specs.State.{Cell, Line, LineStep, Effect, takes, reaches, effect_of, heads_of, place_of_me, cell_after, line_after, line_step_of, run_line}
 use Rattle.hem_system.proofs.Changed.{is_same, not_same}
@@ -81,7 +81,7 @@ free_at_end p tree line f e top lows o cell templates holds possible taken pendi
     (clean_one line (top ∷ lows) o (subst (λ k. AreCleanAt line (k ∷ lows)) child.2 clean) one cell at).downlock
 
 -- from a line on which the request is pending to the firing that takes it last, an object of the path fires whole blocks
-pub window : (p : Protocol) (tree : Tree) (h : List Firing) (line new : Line) (f : Firing) (e : Effect) (top : ℕ) (lows : List ℕ) (o : ℕ) (cell : Cell) → IsLawful tree → AllHaveTemplates p → LocksHold p tree line → IsPending tree line top lows → IsOneOf o (top ∷ lows) → slice_get line o ≡ Some cell → SendsOn p tree top h → run_line p tree line h ≡ Some new → effect_of p tree new f ≡ Some e → takes_of (top_after top h) f ≡ true → are_blocks (is_some cell.local.down) (templates_at p tree o h) ≡ true
+pub window : (p : Protocol) (tree : Tree) (h : List Firing) (line new : Line) (f : Firing) (e : Effect) (top : ℕ) (lows : List ℕ) (o : ℕ) (cell : Cell) → IsTree tree → AllHaveTemplates p → LocksHold p tree line → IsPending tree line top lows → IsOneOf o (top ∷ lows) → slice_get line o ≡ Some cell → SendsOn p tree top h → run_line p tree line h ≡ Some new → effect_of p tree new f ≡ Some e → takes_of (top_after top h) f ≡ true → are_blocks (is_some cell.local.down) (templates_at p tree o h) ≡ true
 window p tree [] line new f e top lows o cell lawful templates holds pending one at sends runs possible taken =
     let same : line ≡ new = cc in
     let free = free_at_end p tree line f e top lows o cell templates holds (ap (λ l. effect_of p tree l f) same ∙ possible) taken pending one at in
@@ -135,7 +135,7 @@ pub record Begins (tree : Tree) (line : Line) (o : ℕ) : Type 0 where
   pub pending : IsPending tree line o []
   pub free : pending.cell.local.down ≡ None
 
-begins_with : (p : Protocol) (tree : Tree) (line : Line) (f : Firing) (e : Effect) → IsLawful tree → (it : IsActed p tree line f e) → one_if (reaches tree f e.outs.to f.object.0 UpRequests) ≡ 1 → e.after.down ≡ None → Begins tree (line_after tree f e line) f.object.0
+begins_with : (p : Protocol) (tree : Tree) (line : Line) (f : Firing) (e : Effect) → IsTree tree → (it : IsActed p tree line f e) → one_if (reaches tree f e.outs.to f.object.0 UpRequests) ≡ 1 → e.after.down ≡ None → Begins tree (line_after tree f e line) f.object.0
 begins_with p tree line f e lawful it goes free =
     let o = f.object.0 in
     let cell = if_mapped (λ (c : Cell). c.local) (slice_get line o) it.local it.there in
@@ -154,7 +154,7 @@ begins_with p tree line f e lawful it goes free =
     last_false true b is = is
     last_false false b is = refl
 
-pub begins : (p : Protocol) (tree : Tree) (line : Line) (f : Firing) (e : Effect) → IsLawful tree → AllHaveTemplates p → effect_of p tree line f ≡ Some e → HasTemplate p tree f RqUp ⊎ HasTemplate p tree f RqUpSelf → Begins tree (line_after tree f e line) f.object.0
+pub begins : (p : Protocol) (tree : Tree) (line : Line) (f : Firing) (e : Effect) → IsTree tree → AllHaveTemplates p → effect_of p tree line f ≡ Some e → HasTemplate p tree f RqUp ⊎ HasTemplate p tree f RqUpSelf → Begins tree (line_after tree f e line) f.object.0
 begins p tree line f e lawful templates possible has = by_template (acted p tree line f e templates possible) has
   where
     by_template : (it : IsActed p tree line f e) → HasTemplate p tree f RqUp ⊎ HasTemplate p tree f RqUpSelf → Begins tree (line_after tree f e line) f.object.0
@@ -166,7 +166,7 @@ begins p tree line f e lawful templates possible has = by_template (acted p tree
         begins_with p tree line f e lawful it (ap (λ (t : To). one_if (reaches tree f t f.object.0 UpRequests)) acts.sent.goes ∙ ap one_if (is_same f.object.0)) (acts.down_after ∙ acts.down_before)
 
 -- from a firing that sends a request up to the last that takes it or sends it on, its object fires whole blocks
-pub window_of : (p : Protocol) (tree : Tree) (line new : Line) (first last : Firing) (e d : Effect) (h : List Firing) → IsLawful tree → AllHaveTemplates p → LocksHold p tree line → HasTemplate p tree first RqUp ⊎ HasTemplate p tree first RqUpSelf → effect_of p tree line first ≡ Some e → SendsOn p tree first.object.0 h → run_line p tree (line_after tree first e line) h ≡ Some new → effect_of p tree new last ≡ Some d → takes_of (top_after first.object.0 h) last ≡ true → are_blocks false (templates_at p tree first.object.0 h) ≡ true
+pub window_of : (p : Protocol) (tree : Tree) (line new : Line) (first last : Firing) (e d : Effect) (h : List Firing) → IsTree tree → AllHaveTemplates p → LocksHold p tree line → HasTemplate p tree first RqUp ⊎ HasTemplate p tree first RqUpSelf → effect_of p tree line first ≡ Some e → SendsOn p tree first.object.0 h → run_line p tree (line_after tree first e line) h ≡ Some new → effect_of p tree new last ≡ Some d → takes_of (top_after first.object.0 h) last ≡ true → are_blocks false (templates_at p tree first.object.0 h) ≡ true
 window_of p tree line new first last e d h lawful templates holds has possible sends runs then taken =
     let it = begins p tree line first e lawful templates possible has in
     let blocks = window p tree h (line_after tree first e line) new last d first.object.0 [] first.object.0 it.pending.cell lawful templates (line_kept p tree line first e lawful templates possible holds) it.pending (inl refl) it.pending.there sends runs then taken in

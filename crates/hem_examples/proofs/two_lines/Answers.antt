@@ -15,5 +15,5 @@ returns c = record {
   ordered = refl;
   regrouped = refl;
   serial = serial msi two_lines refl refl;
-  same = same_firings msi two_lines.tree two_lines.work two_lines.history two_lines.end (record { protocol = msi_is.protocol; disciplined = msi_is.disciplined; lawful = lawful; runs = record { leads = refl } });
+  same = same_firings msi two_lines.tree two_lines.work two_lines.history two_lines.end (record { protocol = msi_is.protocol; disciplined = msi_is.disciplined; shape = lawful.shape; runs = record { leads = refl } });
 }

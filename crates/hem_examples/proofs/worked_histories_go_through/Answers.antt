@@ -6,4 +6,4 @@ use Rattle.hem_examples.proofs.LateTree.{lawful}
 use Rattle.hem_examples.proofs.worked_histories_go_through.Goals as goal
 
 pub returns : goal.returns
-returns c = record { late = through late_hit lawful refl refl; two = through two_lines lawful refl refl }
+returns c = record { late = through late_hit lawful.shape refl refl; two = through two_lines lawful.shape refl refl }
