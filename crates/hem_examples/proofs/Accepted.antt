@@ -1,7 +1,7 @@
 -- Inclusive MSI meets the premises of the theorem, and worked histories of it go through.
 use Rattle.std.specs.Prelude.{◌≡◌, refl, true, Some}
 use Rattle.std.specs.List.{list_all}
-use Rattle.std.proofs.Common.{rules, arith, subst}
+use Rattle.std.proofs.Common.{rules, subst}
 use Rattle.hem_base.specs.declared.ids.Kind.{Kind}
 use Rattle.hem_base.specs.declared.ids.Kind.TheVariants.{Root, Mid, Leaf}
 use Rattle.hem_syntax.specs.Lawful.{IsProtocol, IsPart}

@@ -1,7 +1,7 @@
 -- The other shipped protocols meet the premises of the theorem.
 use Rattle.std.specs.Prelude.{refl}
-use Rattle.std.proofs.Common.{rules, arith}
-use Rattle.hem_syntax.specs.Lawful.{IsProtocol, IsPart}
+use Rattle.std.proofs.Common.{rules}
+use Rattle.hem_syntax.specs.Lawful.{IsProtocol}
 use Rattle.hem_check.specs.Discipline.{IsDisciplined}
 use Rattle.hem_examples.specs.MesiInclusive.{mesi_inclusive}
 use Rattle.hem_examples.specs.MesiNoninclusive.{mesi_noninclusive}

@@ -7,7 +7,7 @@ use Rattle.hem_syntax.specs.declared.rule.Assign.TheVariants as assign
 use Rattle.hem_syntax.specs.declared.rule.Value.TheVariants as value
 use Rattle.hem_syntax.specs.Protocol.{Protocol}
 use Rattle.hem_abstract.specs.Partners.{pair}
-use Rattle.hem_abstract.specs.Stable.{Breach, first_unstable}
+use Rattle.hem_abstract.specs.Stable.{first_unstable}
 use Rattle.hem_examples.specs.Names.{shared, invalid_or_shared}
 use Rattle.hem_examples.specs.RootRules.{root_rules}
 use Rattle.hem_examples.specs.MidRules.{gets_up_rule, gets_resp_rule, getm_up_rule, getm_resp_rule, getm_resp_inv_rule, inv_rule, inv_down_rule, inv_done_rule, downgrade_rule, down_down_rule, down_done_rule, evict_rule, evict_ack_rule, recall_rule, recall_done_rule}

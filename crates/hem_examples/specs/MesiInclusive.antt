@@ -1,6 +1,5 @@
 -- The protocol inclusive MESI: a leaf may have the only copy before it stores.
 use Rattle.std.specs.Prelude.{List, [], ◌∷◌, None, Some, codes}
-use Rattle.hem_syntax.specs.declared.rule.Class.{Class}
 use Rattle.hem_syntax.specs.declared.rule.Class.TheVariants.{ExtReq, ExtRsp, UpReq, UpRsp, DownReq, DownRsp}
 use Rattle.hem_syntax.specs.declared.rule.Rule.{Rule}
 use Rattle.hem_syntax.specs.declared.rule.Take.TheVariants as take

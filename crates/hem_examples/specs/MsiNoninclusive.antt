@@ -1,6 +1,5 @@
 -- The protocol noninclusive MSI: a mid may drop its value while copies stand below it.
 use Rattle.std.specs.Prelude.{List, [], ◌∷◌, None, Some, codes}
-use Rattle.hem_syntax.specs.declared.rule.Class.{Class}
 use Rattle.hem_syntax.specs.declared.rule.Class.TheVariants.{ExtReq, ExtRsp, UpReq, UpRsp, DownReq, DownRsp}
 use Rattle.hem_syntax.specs.declared.rule.Rule.{Rule}
 use Rattle.hem_syntax.specs.declared.rule.Take.TheVariants as take

@@ -1,5 +1,5 @@
 -- What the theorem says of inclusive MSI and of its worked histories.
-use Rattle.std.specs.Prelude.{◌≡◌, List, None, Some}
+use Rattle.std.specs.Prelude.{◌≡◌, List}
 use Rattle.hem_base.specs.declared.ids.Firing.{Firing}
 use Rattle.hem_syntax.specs.Lawful.{IsProtocol}
 use Rattle.hem_syntax.specs.Protocol.{Protocol}

@@ -7,7 +7,7 @@ use Rattle.hem_template.specs.declared.clause.Clause.TheVariants.{Stable}
 use Rattle.hem_syntax.specs.Protocol.{Protocol}
 use Rattle.hem_rows.specs.Rows.{AllHaveTemplates}
 use Rattle.hem_abstract.specs.Partners.{alone}
-use Rattle.hem_check.specs.Discipline.{Broken, first_broken}
+use Rattle.hem_check.specs.Discipline.{first_broken}
 use Rattle.hem_system.specs.State.{Runs, run, start}
 use Rattle.hem_trace.specs.Blocks.{firings_of}
 use Rattle.hem_serial.specs.Histories.{printed_blocks}
