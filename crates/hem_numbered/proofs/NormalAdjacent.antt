@@ -13,6 +13,7 @@ use Rattle.hem_shape.proofs.Spots.{and_both, not_true, not_false, true_false, or
 use Rattle.hem_numbered.specs.Histories.{EndsWhereUp}
 use Rattle.hem_numbered.specs.Grouped.{next_other, is_broken, StandAdjacent}
 use Rattle.hem_numbered.specs.Adjacent.{NextOwn, AreAdjacent}
+use Rattle.hem_numbered.proofs.Walks.{append_one}
 
 -- behind an unmoved request upward none of its transaction comes
 abbrev LastOwn : List Entry → Entry → Entry → Type 0
@@ -106,10 +107,6 @@ not_broken (y ∷ past) x xs adjacent =
     next (z ∷ past) same other (inl own) = let is : (z.number == x.number) ≡ true = grind arith in true_false is (not_true (z.number == x.number) other)
     next (z ∷ past) same other (inr none) = each_end (λ z. z.number ≢ y.number) (z ∷ past) x xs none (sym same)
 
-one_more : (past : List Entry) (x : Entry) (xs : List Entry) → (past ++ x ∷ []) ++ xs ≡ past ++ x ∷ xs
-one_more [] x xs = refl
-one_more (y ∷ past) x xs = ap (λ l. y ∷ l) (one_more past x xs)
-
 pub stand_adjacent : (past xs : List Entry) → AreAdjacent (past ++ xs) → StandAdjacent past xs
 stand_adjacent past [] adjacent = tt
-stand_adjacent past (x ∷ xs) adjacent = (not_broken past x xs adjacent, stand_adjacent (past ++ x ∷ []) xs (subst (λ l. AreAdjacent l) (sym (one_more past x xs)) adjacent))
+stand_adjacent past (x ∷ xs) adjacent = (not_broken past x xs adjacent, stand_adjacent (past ++ x ∷ []) xs (subst (λ l. AreAdjacent l) (sym (append_one past x xs)) adjacent))

@@ -26,12 +26,12 @@ use Rattle.hem_shape.proofs.Ready.{down_not_up, some_none, up_fired}
 use Rattle.hem_shape.proofs.Phases.{asks_after}
 use Rattle.hem_numbered.specs.Numbers.{Numbers, carries, held_for, uplock_at, downlock_at, progress_of, AreNumbers}
 use Rattle.hem_numbered.specs.Quiet.{HasTurned, QuietAt, IsQuiet}
+use Rattle.hem_numbered.proofs.Kept.{numbered_head}
 use Rattle.hem_numbered.proofs.Carried.{carries_first}
 use Rattle.hem_numbered.proofs.EdgeFacts.{EdgeAt, edge_at, response_first, counted_child}
 use Rattle.hem_numbered.proofs.Held.{held_parts, held_number, held_is}
 use Rattle.hem_numbered.proofs.Moves.{move_of, answer_up, request_up}
 use Rattle.hem_numbered.proofs.Needs.{request_needs}
-use Rattle.hem_numbered.proofs.Numbering.{numbered}
 use Rattle.hem_numbered.proofs.QuietWaits.{Fired, quiet_own, asked_target, asks_free, stays_quiet, ask_number, high_number}
 
 -- an uplock that is held after a firing that takes none was held before, and the firing didn't free it
@@ -123,7 +123,7 @@ clean_way p tree line numbers is_new x c o lawful locks known above asks free (s
     ⊎_elim
     (λ some. absurd (
     let first = response_first p (list_at line k Down) edge.order some in
-    let y = numbered (list_at line k Down) (numbers.lists k Down) first.0 (known.lists k Down (λ bad. cc)) first.1 in
+    let y = numbered_head (list_at line k Down) (numbers.lists k Down) first.0 (known.lists k Down (λ bad. cc)) first.1 in
     let there = carries_first (is_down_response p) y.0 (list_at line k Down) (numbers.lists k Down) first.0 first.1 y.1 first.2 in
     let holds = (known.shapes y.0).below.answers_down k there in
     let same : y.0 ≡ x = sym (held_number tree k y.0 (numbers.up k) (uplock_at line k) holds.asker holds.held) ∙ held_number tree k x (numbers.up k) (uplock_at line k) a waits in
