@@ -28,13 +28,13 @@ use Rattle.hem_rows.specs.Acts.{IsThere, is_down_request, is_down_response}
 use Rattle.hem_locks.specs.Edges.{count, for_kid, for_parent, awaits}
 use Rattle.hem_shape.specs.Progress.{Asker, child, processor, parent, itself, IsBlank}
 use Rattle.hem_shape.specs.Move.{Taking, request, parent_answer, child_answers, CanTake}
-use Rattle.hem_shape.proofs.Subtrees.{child_parent}
 use Rattle.hem_shape.proofs.Spots.{true_false}
 use Rattle.hem_numbered.specs.Numbers.{Numbers, carries, is_any, asker_of, uplock_at, downlock_at, progress_of, AreNumbers}
 use Rattle.hem_numbered.specs.Bounds.{AreBounded}
 use Rattle.hem_numbered.specs.Firings.{HasNumber}
 use Rattle.hem_locks.proofs.Places.{within}
 use Rattle.hem_locks.proofs.Clean.{awaits-few}
+use Rattle.hem_system.proofs.Takers.{parent_is}
 use Rattle.hem_numbered.proofs.Carried.{carries_first, carries_none, carries_some, count_any}
 use Rattle.hem_numbered.proofs.TakesAs.{TakesAs, nothing_as, child_as, parent_as, answer_as, answers_as, no_child, no_named_child, no_parent, no_children, parent_here, child_here}
 use Rattle.hem_numbered.proofs.Held.{held_number, held_is, held_none, child_counts, parent_counts}
@@ -170,7 +170,7 @@ from_children p tree f outs line numbers is_new n one l bounded known is_taken n
     let head = there one is_taken in
     let first : carries is_any n (list_at line one UpResponses) (numbers.lists one UpResponses) ≡ true = carries_first is_any n (list_at line one UpResponses) (numbers.lists one UpResponses) head.0 head.1 numbered refl in
     let holds = (known.shapes n).above.answers_up one first in
-    let same_high : holds.high ≡ f.object.0 = (let a : Some holds.high ≡ Some f.object.0 = sym holds.above ∙ child_parent tree one f.object.0 (own one is_taken) in cc) in
+    let same_high : holds.high ≡ f.object.0 = (let a : Some holds.high ≡ Some f.object.0 = sym holds.above ∙ parent_is tree one f.object.0 (own one is_taken) in cc) in
     let same = held_number tree holds.high n (numbers.down holds.high) (downlock_at line holds.high) holds.lock.asker holds.lock.held in
     record {
       can = record {

@@ -17,12 +17,12 @@ use Rattle.hem_trace.specs.History.{Channel, events, takes_from}
 use Rattle.hem_trace.specs.Tags.{Tags, tags_after, number_at, numbers_by_tags}
 use Rattle.hem_trace.specs.Order.{Entry, entries_from}
 use Rattle.hem_law.specs.Normal.{AreNumbered}
-use Rattle.hem_rows.proofs.Choices.{if_some}
+use Rattle.hem_rows.proofs.Choices.{if_some, both}
 use Rattle.hem_rows.specs.Rows.{IsTaking, AllHaveTemplates}
 use Rattle.hem_rows.specs.Acts.{takes_kids}
 use Rattle.hem_locks.proofs.States.{IsMade, made}
 use Rattle.hem_shape.specs.Progress.{set_at}
-use Rattle.hem_shape.proofs.Spots.{same_or_other, set_here, set_there, true_false, and_both}
+use Rattle.hem_shape.proofs.Spots.{same_or_other, set_here, set_there, true_false}
 use Rattle.hem_numbered.specs.Numbers.{Numbers}
 use Rattle.hem_numbered.specs.Firings.{HasNumber}
 use Rattle.hem_numbered.specs.Histories.{tags_of, AreKnown}
@@ -109,8 +109,8 @@ walk_on p tree owner line mid new all is_new past f e place n es step rest early
   where
     on_line : (c : Channel) → c.lane ≢ Requests → takes_from tree c (event_by f e) ≡ true → slice_get (tags_of all c) 0 ≡ Some n
     on_line c other is =
-        let both = and_both (f.line.0 == c.line) (takes tree f e.outs c.object c.lane) is in
-        ap (λ l. slice_get ((all l).lists c.object c.lane) 0) (sym (eqb-true f.line.0 c.line both.0)) ∙ step.takes c.object c.lane other both.1
+        let parts = both (f.line.0 == c.line) (takes tree f e.outs c.object c.lane) is in
+        ap (λ l. slice_get ((all l).lists c.object c.lane) 0) (sym (eqb-true f.line.0 c.line parts.0)) ∙ step.takes c.object c.lane other parts.1
 
 -- the number of an event of a history
 pub event_number : (p : Protocol) (tree : Tree) (owner : ℕ → ℕ) (s mid : State) (all : ℕ → Numbers) (is_new : ℕ → Bool) (past : List Entry) (f : Firing) (place : ℕ) → IsTree tree → AllHaveTemplates p → (it : IsMade p tree s f mid) → AreKnown p tree owner s all is_new past → HasNumber tree f it.effect.outs (all f.line.0).lists (λ y. y == place) (number_at tree (tags_of all) place (event_by f it.effect))

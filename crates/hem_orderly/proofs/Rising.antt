@@ -24,12 +24,13 @@ use Rattle.hem_windows.proofs.Pending.{child_named}
 use Rattle.hem_shape.specs.Progress.{Asker, child, processor, parent, itself, Progress}
 use Rattle.hem_shape.specs.Move.{Taking, request, parent_answer, child_answers, Giving, answer, ask_up, ask_down, template_name, taken, recorded, given, CanTake}
 use Rattle.hem_shape.specs.Shape.{is_asking_up, HasShape}
-use Rattle.hem_shape.proofs.Spots.{set_here, true_false, and_both}
+use Rattle.hem_shape.proofs.Spots.{set_here, true_false}
 use Rattle.hem_numbered.specs.Numbers.{Numbers, carries, is_any, progress_of}
 use Rattle.hem_numbered.specs.Histories.{AreKnown}
 use Rattle.hem_numbered.proofs.TakesAs.{left, TakesAs, child_here}
 use Rattle.hem_numbered.proofs.Histories.{IsStep}
 use Rattle.hem_shape.proofs.Ready.{down_not_up}
+use Rattle.hem_rows.proofs.Choices.{both}
 
 -- a firing that takes a child's request and sends a request up is of one template
 child_up : (c : ℕ) (gives : Giving) (t : TemplateName) → template_name request (child c) gives ≡ Some t → is_asking_up t ≡ true → t ≡ RqUp
@@ -43,7 +44,7 @@ request_taken p tree f t outs line numbers n top (child c) request gives shape a
     (subst (λ k. takes_of k f ≡ true) ((shape.rising top asks).only c can.there) (by_test (takes tree f outs c UpRequests) refl), (λ up. child_up c gives t named up))
   where
     by_test : (b : Bool) → takes tree f outs c UpRequests ≡ b → takes_of c f ≡ true
-    by_test true is = (and_both outs.taken_request (takes_of c f) (and_both (outs.taken_request && takes_of c f) (is_child tree c f.object.0) is).0).1
+    by_test true is = (both outs.taken_request (takes_of c f) (both (outs.taken_request && takes_of c f) (is_child tree c f.object.0) is).0).1
     by_test false is =
         let all : left is_any tree f outs line numbers n UpRequests c ≡ true = ap (λ b. carries is_any n (drop (cond b 1 0) (list_at line c UpRequests)) (drop (cond b 1 0) (numbers.lists c UpRequests))) is ∙ can.there in
         absurd (true_false all (lists.asks_up c ∙ set_here c false (progress_of p tree line numbers n).asks_up c refl))
