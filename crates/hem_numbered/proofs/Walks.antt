@@ -3,6 +3,7 @@ use Rattle.std.proofs.Common.{◌≡◌, ◌≢◌, ℕ, ◌+◌, ◌<◌, ◌�
 use Rattle.std.specs.Prelude.{◌==◌, slice_get, option_map, option_and_then, slice_set}
 use Rattle.std.proofs.str.Laws.{order}
 use Rattle.std.proofs.lemmas.Bool.{eqb-true}
+use Rattle.std.proofs.lemmas.List.{append-nil}
 use Rattle.hem_base.specs.declared.ids.Firing.{Firing}
 use Rattle.hem_syntax.specs.Protocol.{Protocol}
 use Rattle.hem_template.specs.Template.{row_of}
@@ -85,10 +86,6 @@ pub append_one : (past : List Entry) (x : Entry) (xs : List Entry) → (past ++ 
 append_one [] x xs = refl
 append_one (y ∷ past) x xs = ap (λ l. y ∷ l) (append_one past x xs)
 
-pub append_nothing : (past : List Entry) → past ++ [] ≡ past
-append_nothing [] = refl
-append_nothing (y ∷ past) = ap (λ l. y ∷ l) (append_nothing past)
-
 -- one event more
 walk_on : (p : Protocol) (tree : Tree) (owner : ℕ → ℕ) (line : Line) (mid new : State) (all : ℕ → Numbers) (is_new : ℕ → Bool) (past : List Entry) (f : Firing) (e : Effect) (place n : ℕ) (es : List Event) → IsStep p tree owner line mid all is_new past f e place n (λ y. y == place) → ((step : IsStep p tree owner line mid all is_new past f e place n (λ y. y == place)) → n ≤ place → IsWalked p tree owner new (past ++ entry_by p tree place n f e ∷ []) (numbered_from p tree (place + 1) (tags_of (set_at f.line.0 step.now all)) es) (tags_of (set_at f.line.0 step.now all))) → n ≤ place → n ≡ number_at tree (tags_of all) place (event_by f e) → IsWalked p tree owner new past (numbered_from p tree place (tags_of all) (event_by f e ∷ es)) (tags_of all)
 walk_on p tree owner line mid new all is_new past f e place n es step rest early is =
@@ -137,7 +134,7 @@ walk p tree owner [] s new all is_new past place lawful templates known runs lat
       least = tt;
       all = all;
       is_new = is_new;
-      known = subst (λ l. AreKnown p tree owner new all is_new l) (sym (append_nothing past)) (subst (λ s. AreKnown p tree owner s all is_new past) same known);
+      known = subst (λ l. AreKnown p tree owner new all is_new l) (sym (append-nil past)) (subst (λ s. AreKnown p tree owner s all is_new past) same known);
     }
 walk p tree owner (f ∷ h) s new all is_new past place lawful templates known runs late fits =
     let first = if_some (λ next. run p tree next h) (fire p tree s f) new runs in

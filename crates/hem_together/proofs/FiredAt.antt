@@ -1,8 +1,9 @@
 -- The entries of a transaction at an object, with one entry more.
-use Rattle.std.proofs.Common.{◌≡◌, ◌≢◌, ℕ, ◌≤◌, Bool, true, false, cond, List, [], ◌∷◌, ◌++◌, length, map, refl, sym, ap, ◌∙◌, subst, arith, Some, inl, inr, ◌⊎◌}
+use Rattle.std.proofs.Common.{◌≡◌, ◌≢◌, ℕ, ◌≤◌, Bool, true, false, cond, List, [], ◌∷◌, ◌++◌, length, map, refl, sym, ap, ◌∙◌, subst, Some, inl, inr, ◌⊎◌}
 use Rattle.std.specs.Prelude.{◌==◌, filter, option_and_then, Ok}
 use Rattle.std.proofs.lemmas.List.{length-map}
 use Rattle.std.proofs.lemmas.List.Elements.{filter-append}
+use Rattle.std.proofs.lemmas.Bool.{eq-eqb}
 use Rattle.hem_base.specs.declared.ids.Firing.{Firing}
 use Rattle.hem_base.specs.declared.ids.Kind.{Kind}
 use Rattle.hem_syntax.specs.declared.rule.Rule.{Rule}
@@ -52,14 +53,11 @@ one_drops a b c xs x (inr (inr three)) = by_line (c x) refl
     by_line false is = ap (λ ys. filter a (filter b ys)) (filter_drops c xs x is)
     by_line true is = ap (λ ys. filter a (filter b ys)) (filter_passes c xs x is) ∙ by_object (filter c xs) (b x) refl
 
-same_number : (a b : ℕ) → a ≡ b → (a == b) ≡ true
-same_number a b is = grind arith
-
 -- the entry is of the transaction, at the object and on the line
 pub fired_here : (past : List Entry) (x : Entry) (l o t : ℕ) → x.event.firing.line.0 ≡ l → x.event.firing.object.0 ≡ o → x.number ≡ t → fired_at l o t (past ++ x ∷ []) ≡ fired_at l o t past ++ x ∷ []
 fired_here past x l o t line object number =
     all_pass (λ e. e.number == t) (λ e. e.event.firing.object.0 == o) (λ e. e.event.firing.line.0 == l) past x
-    (same_number x.event.firing.line.0 l line) (same_number x.event.firing.object.0 o object) (same_number x.number t number)
+    (eq-eqb x.event.firing.line.0 l line) (eq-eqb x.event.firing.object.0 o object) (eq-eqb x.number t number)
 
 -- or it is not
 pub fired_elsewhere : (past : List Entry) (x : Entry) (l o t : ℕ) → (x.event.firing.line.0 ≢ l) ⊎ ((x.event.firing.object.0 ≢ o) ⊎ (x.number ≢ t)) → fired_at l o t (past ++ x ∷ []) ≡ fired_at l o t past
