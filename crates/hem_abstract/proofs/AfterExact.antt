@@ -17,9 +17,9 @@ use Rattle.hem_syntax.specs.Lawful.{write_alike, set_once}
 use Rattle.hem_object.specs.Changes.{set_at, assign_own, assign_targets, assign_me, in_turn, assigned}
 use Rattle.hem_abstract.specs.Abstract.{Abstract, status, occurs, abstract_of}
 use Rattle.hem_abstract.specs.Partners.{after_one, after, is_new_val}
-use Rattle.hem_rows.proofs.Choices.{both}
-use Rattle.hem_abstract.proofs.Exact.{bits-where}
+use Rattle.hem_rows.proofs.Choices.{both, not-true}
 use Rattle.hem_abstract.specs.Exact.{is_me, is_targets, AreAwaited, KnowsTargets}
+use Rattle.hem_rows.proofs.Bits.{bits_where-is}
 
 -- the fields change alike
 fields-own : (before : Local) (view : View) (targets : StatusSet) (a : Assign) (local : Local) (at : Abstract) → at.fields ≡ local.fields → (after_one targets a at).fields ≡ (assign_own before view a local).fields
@@ -122,7 +122,7 @@ targets-one view targets s local at same are some =
     (bits-alike (λ x. (has at.kids (status x) && not (has targets (status x))) || x == s.0) (occurs (set_at s (has_bit view.awaited.0) 0 local.dir)) 8
     (λ x less.
     ap (λ (set : StatusSet). (has set (status x) && not (has targets (status x))) || x == s.0) same
-    ∙ ap (λ b. (b && not (has targets (status x))) || x == s.0) (bits-where (occurs local.dir) 8 x less)
+    ∙ ap (λ b. (b && not (has targets (status x))) || x == s.0) (bits_where-is (occurs local.dir) 8 x less)
     ∙ ap (λ b. (occurs local.dir x && not (has targets (status x))) || b) (eq-turned x s.0)
     ∙ sym (occurs-set (has_bit view.awaited.0) targets s 0 local.dir x are ∙ ap (λ b. (occurs local.dir x && not (has targets (status x))) || (b && s.0 == x)) some)))
 
@@ -141,10 +141,6 @@ no-more s (assign.Targets t ∷ sets) none = cc
 no-more s (assign.Field i t ∷ sets) none = no-more s sets none
 no-more s (assign.Val v ∷ sets) none = no-more s sets none
 no-more s (assign.Me t ∷ sets) none = no-more s sets none
-
-not-true : (b : Bool) → not b ≡ true → b ≡ false
-not-true true is = cc
-not-true false is = refl
 
 targets-sets : (view : View) (targets : StatusSet) (sets : List Assign) (local : Local) (at : Abstract) → set_once sets ≡ true → at.kids ≡ (abstract_of local).kids → KnowsTargets view targets sets local.dir → (after at sets targets).kids ≡ (abstract_of (in_turn (assign_targets view) sets local)).kids
 targets-sets view targets [] local at once same knows = same

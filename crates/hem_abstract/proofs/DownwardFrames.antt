@@ -33,8 +33,9 @@ use Rattle.hem_object.specs.Changes.{freed, locked}
 use Rattle.hem_object.specs.Targets.{targets_of}
 use Rattle.hem_template.specs.Template.{row_of, value_fits}
 use Rattle.hem_rows.proofs.Choices.{both}
+use Rattle.hem_rows.proofs.Possible.{can_parts}
 use Rattle.hem_abstract.proofs.UplockUnseen.{with_up, AreAlike, guard-frame, value-frame, all-names-frame, assigned-frame}
-use Rattle.hem_abstract.proofs.OneRule.{can-parts, can-whole, NamesFit, Does, send-parent-same}
+use Rattle.hem_abstract.proofs.OneRule.{can-whole, NamesFit, Does, send-parent-same}
 
 -- an immediate answer upward, with all that its template fixes
 abbrev pub imm_up : RuleId → MsgId → List Atom → List Assign → MsgId → Value → Rule
@@ -49,7 +50,7 @@ imm-alike id me local heads x = record { no_me = refl; msg = refl; rs = refl; aw
 pub imm-frame : (p : Protocol) (kind : Kind) (name : RuleId) (id : MsgId) (guard : List Atom) (sets : List Assign) (answer : MsgId) (v : Value) (me : Option ℕ) (local : Local) (heads : Heads) (next : Local) (outs : Outs) (x : Option Lock) → NamesFit p kind (imm_up name id guard sets answer v) (row_of ImmUp) → Does p kind (imm_up name id guard sets answer v) me local heads next outs → Does p kind (imm_up name id guard sets answer v) me (with_up x local) heads (with_up x next) outs
 imm-frame p kind name id guard sets answer v me local heads next outs x names does =
     let rule = imm_up name id guard sets answer v in
-    let parts = can-parts p kind rule me local heads does.can in
+    let parts = can_parts p kind rule me local heads does.can in
     let alike = imm-alike id me local heads x in
     let a = view_of (take.Parent id) me local heads in
     let b = view_of (take.Parent id) me (with_up x local) heads in
@@ -95,7 +96,7 @@ request-kept p id (Some m) has class =
 pub rq_down_down-frame : (p : Protocol) (kind : Kind) (name : RuleId) (id : MsgId) (guard : List Atom) (set : StatusSet) (request : MsgId) (v : Value) (me : Option ℕ) (local : Local) (heads : Heads) (next : Local) (outs : Outs) (x : Option Lock) → has_class p id is_down_req ≡ true → NamesFit p kind (rq_down_down name id guard set request v) (row_of RqDownDown) → Does p kind (rq_down_down name id guard set request v) me local heads next outs → Does p kind (rq_down_down name id guard set request v) me (with_up x local) heads (with_up x next) outs
 rq_down_down-frame p kind name id guard set request v me local heads next outs x class names does =
     let rule = rq_down_down name id guard set request v in
-    let parts = can-parts p kind rule me local heads does.can in
+    let parts = can_parts p kind rule me local heads does.can in
     let a = view_of (take.Parent id) me local heads in
     let b = view_of (take.Parent id) me (with_up x local) heads in
     let alike : AreAlike (row_of RqDownDown) a b = record { no_me = refl; msg = refl; rs = refl; awaited = refl; kept = λ kept. cc } in
@@ -130,7 +131,7 @@ rs_up_up name id guard sets answer v =
 pub rs_up_up-frame : (p : Protocol) (kind : Kind) (name : RuleId) (id : MsgId) (guard : List Atom) (sets : List Assign) (answer : MsgId) (v : Value) (me : Option ℕ) (local : Local) (heads : Heads) (next : Local) (outs : Outs) (x : Option Lock) → NamesFit p kind (rs_up_up name id guard sets answer v) (row_of RsUpUp) → Does p kind (rs_up_up name id guard sets answer v) me local heads next outs → Does p kind (rs_up_up name id guard sets answer v) me (with_up x local) heads (with_up x next) outs
 rs_up_up-frame p kind name id guard sets answer v me local heads next outs x names does =
     let rule = rs_up_up name id guard sets answer v in
-    let parts = can-parts p kind rule me local heads does.can in
+    let parts = can_parts p kind rule me local heads does.can in
     let a = view_of (take.Kids id) me local heads in
     let b = view_of (take.Kids id) me (with_up x local) heads in
     let alike : AreAlike (row_of RsUpUp) a b = record { no_me = refl; msg = refl; rs = refl; awaited = refl; kept = λ kept. refl } in

@@ -1,13 +1,10 @@
 -- An abstract state is exact: a guard that names no requester holds in a state where it holds in its abstract state.
-use Rattle.std.proofs.Common.{◌≡◌, ◌≢◌, refl, ap, sym, ◌∙◌, ℕ, zero, suc, ◌+◌, ◌*◌, ◌^◌, ◌/◌, ◌<◌, ◌≤◌, Bool, true, false, not, cond, ◌&&◌, ◌||◌, List, [], ◌∷◌, map, arith, Option, Some, None, inl, inr, ◌⊎◌}
+use Rattle.std.proofs.Common.{◌≡◌, ◌≢◌, refl, ap, sym, ◌∙◌, ℕ, zero, suc, ◌<◌, ◌≤◌, Bool, true, false, not, ◌&&◌, ◌||◌, List, [], ◌∷◌, map, arith, Option, Some, None, inl, inr, ◌⊎◌}
 use Rattle.std.specs.Prelude.{◌==◌, option_map}
 use Rattle.std.specs.List.{list_all, list_any}
 use Rattle.std.specs.Option.{option_map_or}
-use Rattle.std.specs.Int.{bit_at}
 use Rattle.std.proofs.lemmas.Bool.Decides.{eqb_tells}
-use Rattle.std.proofs.lemmas.Nat.Bits.{bit_at_lowest, bit_at-suc, bit_at_above}
 use Rattle.std.proofs.lemmas.List.Folds.{list_all-append, list_all-map}
-use Rattle.hem_base.specs.Sets.{has_bit, bits_where}
 use Rattle.hem_base.specs.declared.ids.Status8.{Status8}
 use Rattle.hem_base.specs.declared.ids.StatusSet.{StatusSet}
 use Rattle.hem_base.specs.declared.ids.Message.{Message}
@@ -20,44 +17,7 @@ use Rattle.hem_object.specs.Guard.{has, atom_holds, holds}
 use Rattle.hem_abstract.specs.Abstract.{AreSmall, status, all_statuses, atom_at, guard_at, occurs, abstract_of}
 use Rattle.hem_template.specs.Template.{reads_me}
 use Rattle.hem_rows.proofs.Choices.{not_same}
-
--- bits below the highest
-top-bit : (n b i : ℕ) → i < n → bit_at (b + 2 ^ n) i ≡ bit_at b i
-top-bit zero b i less = absurd (omega arith)
-top-bit (suc m) b zero less = rw (bit_at_lowest, bit_at_lowest) (let double : 2 ^ suc m ≡ 2 * 2 ^ m = omega arith in omega arith)
-top-bit (suc m) b (suc i) less =
-    let double : 2 ^ suc m ≡ 2 * 2 ^ m = omega arith in
-    let half : (b + 2 ^ suc m) / 2 ≡ b / 2 + 2 ^ m = omega arith in
-    let less_m : i < m = omega arith in
-    bit_at-suc (b + 2 ^ suc m) i ∙ ap (λ x. bit_at x i) half ∙ top-bit m (b / 2) i less_m ∙ sym (bit_at-suc b i)
-
--- the highest bit
-high-bit : (n b : ℕ) → b < 2 ^ n → bit_at (b + 2 ^ n) n ≡ 1
-high-bit zero b less = rw bit_at_lowest (let one : 2 ^ 0 ≡ 1 = omega arith in omega arith)
-high-bit (suc m) b less =
-    let double : 2 ^ suc m ≡ 2 * 2 ^ m = omega arith in
-    let half : (b + 2 ^ suc m) / 2 ≡ b / 2 + 2 ^ m = omega arith in
-    let less_m : b / 2 < 2 ^ m = omega arith in
-    bit_at-suc (b + 2 ^ suc m) m ∙ ap (λ x. bit_at x m) half ∙ high-bit m (b / 2) less_m
-
-pub bits-less : (test : ℕ → Bool) (n : ℕ) → bits_where test n < 2 ^ n
-bits-less test zero = let one : 2 ^ 0 ≡ 1 = omega arith in omega arith
-bits-less test (suc n) = by_test (test n) (bits-less test n)
-  where
-    by_test : (b : Bool) → bits_where test n < 2 ^ n → bits_where test n + cond b (2 ^ n) 0 < 2 ^ suc n
-    by_test true less = let double : 2 ^ suc n ≡ 2 * 2 ^ n = omega arith in omega arith
-    by_test false less = let double : 2 ^ suc n ≡ 2 * 2 ^ n = omega arith in omega arith
-
--- a bit of the numbers that pass a test is the test
-pub bits-where : (test : ℕ → Bool) (n i : ℕ) → i < n → has_bit (bits_where test n) i ≡ test i
-bits-where test zero i less = absurd (omega arith)
-bits-where test (suc n) i less = by_place (eqb_tells i n) (test n) refl (λ below. bits-where test n i below)
-  where
-    by_place : ((i == n) ≡ true) × (i ≡ n) ⊎ ((i == n) ≡ false) × (i ≢ n) → (b : Bool) → test n ≡ b → (i < n → has_bit (bits_where test n) i ≡ test i) → has_bit (bits_where test n + cond (test n) (2 ^ n) 0) i ≡ test i
-    by_place (inl same) true is rest = rw (same.1, is) (ap (λ x. x == 1) (high-bit n (bits_where test n) (bits-less test n)))
-    by_place (inl same) false is rest = rw (same.1, is) (let none : bit_at (bits_where test n + 0) n ≡ 0 = bit_at_above (bits_where test n + 0) n n (let less = bits-less test n in omega arith) (omega arith) in ap (λ x. x == 1) none)
-    by_place (inr other) true is rest = let below : i < n = omega (arith, less, other.1) in rw is (ap (λ x. x == 1) (top-bit n (bits_where test n) i below) ∙ rest below)
-    by_place (inr other) false is rest = let below : i < n = omega (arith, less, other.1) in let nought : bits_where test n + 0 ≡ bits_where test n = omega arith in rw (is, nought) (rest below)
+use Rattle.hem_rows.proofs.Bits.{bits_where-is}
 
 -- no status below n
 all-none : (d : ℕ) (t : ℕ → Bool) (n : ℕ) → n ≤ d → list_all (λ s. not (d == s) || t s) (below n) ≡ true
@@ -126,7 +86,7 @@ all-occur t (d ∷ dir) small =
 pub kids_all-exact : (set : StatusSet) (local : Local) → AreSmall local.dir → list_all (λ s. not (has (abstract_of local).kids s) || has set s) all_statuses ≡ list_all (has set) local.dir
 kids_all-exact set local small =
     list_all-map (λ s. not (has (abstract_of local).kids s) || has set s) status (below 8)
-    ∙ all-same (λ s. not (has (abstract_of local).kids (status s)) || has set (status s)) (λ s. not (occurs local.dir s) || has set (status s)) 8 (λ s less. ap (λ b. not b || has set (status s)) (bits-where (occurs local.dir) 8 s less))
+    ∙ all-same (λ s. not (has (abstract_of local).kids (status s)) || has set (status s)) (λ s. not (occurs local.dir s) || has set (status s)) 8 (λ s less. ap (λ b. not b || has set (status s)) (bits_where-is (occurs local.dir) 8 s less))
     ∙ all-occur (λ s. has set (status s)) local.dir small
 
 -- one occurs that passes a test where some entry does
@@ -167,7 +127,7 @@ any-same f g n same = any-not f (below n) ∙ ap not (all-same (λ s. not (f s))
 pub kids_any-exact : (set : StatusSet) (local : Local) → AreSmall local.dir → list_any (λ s. has (abstract_of local).kids s && has set s) all_statuses ≡ list_any (has set) local.dir
 kids_any-exact set local small =
     any-mapped (λ s. has (abstract_of local).kids s && has set s) (below 8)
-    ∙ any-same (λ s. has (abstract_of local).kids (status s) && has set (status s)) (λ s. occurs local.dir s && has set (status s)) 8 (λ s less. ap (λ b. b && has set (status s)) (bits-where (occurs local.dir) 8 s less))
+    ∙ any-same (λ s. has (abstract_of local).kids (status s) && has set (status s)) (λ s. occurs local.dir s && has set (status s)) 8 (λ s less. ap (λ b. b && has set (status s)) (bits_where-is (occurs local.dir) 8 s less))
     ∙ any-occur (λ s. has set (status s)) local.dir small
 
 -- a condition that reads neither the requester nor the others

@@ -1,5 +1,5 @@
 -- What one rule does at an object, and the parts of its names.
-use Rattle.std.proofs.Common.{◌≡◌, refl, ap, sym, ◌∙◌, ℕ, Bool, true, ◌&&◌, List, [], ◌∷◌, length, Option, Some, None}
+use Rattle.std.proofs.Common.{◌≡◌, refl, ap, sym, ◌∙◌, ℕ, Bool, true, ◌&&◌, List, [], ◌∷◌, Option, Some, None}
 use Rattle.std.specs.Prelude.{is_some, filter_map, option_to_list}
 use Rattle.std.specs.List.{list_all}
 use Rattle.std.proofs.lemmas.List.Folds.{list_all-append}
@@ -15,39 +15,14 @@ use Rattle.hem_object.specs.declared.state.View.{View}
 use Rattle.hem_fire.specs.declared.outs.Outs.{Outs}
 use Rattle.hem_syntax.specs.Protocol.{Protocol}
 use Rattle.hem_object.specs.Local.{Local}
-use Rattle.hem_object.specs.Guard.{holds, value_of}
-use Rattle.hem_fire.specs.OneFire.{Heads, me_fits, can_fire, local_after, outs_of}
-use Rattle.hem_fire.specs.View.{view_of}
-use Rattle.hem_fire.specs.Heads.{takes_there}
-use Rattle.hem_fire.specs.Locks.{need_holds, lock_names, request_in_hand}
-use Rattle.hem_object.specs.Changes.{assign_names}
+use Rattle.hem_object.specs.Guard.{value_of}
+use Rattle.hem_fire.specs.OneFire.{Heads, can_fire, local_after, outs_of}
 use Rattle.hem_fire.specs.Sends.{send_names}
 use Rattle.hem_template.specs.Template.{atom_fits, value_fits, set_fits, names_fit, values_of, value_sent}
 use Rattle.hem_template.specs.declared.row.Row.{Row}
 use Rattle.hem_rows.proofs.Choices.{both}
 use Rattle.hem_template.specs.Rows.{set_value_fits}
-
--- the parts of what makes a rule possible
-pub record CanFire (p : Protocol) (kind : Kind) (rule : Rule) (me : Option ℕ) (local : Local) (heads : Heads) : Type 0 where
-  pub fits : me_fits kind rule.take me (length local.dir) ≡ true
-  pub takes : takes_there rule.take local heads ≡ true
-  pub up : need_holds rule.need.up local.up ≡ true
-  pub down : need_holds rule.need.down local.down ≡ true
-  pub sets : list_all (assign_names local (view_of rule.take me local heads)) rule.sets ≡ true
-  pub lock : lock_names rule.lock (view_of rule.take me local heads) (request_in_hand p rule.take rule.send local (view_of rule.take me local heads) heads) ≡ true
-  pub guard : holds rule.guard local (view_of rule.take me local heads) ≡ true
-  pub send : send_names kind rule.send local (view_of rule.take me local heads) ≡ true
-
-pub can-parts : (p : Protocol) (kind : Kind) (rule : Rule) (me : Option ℕ) (local : Local) (heads : Heads) → can_fire p kind rule me local heads ≡ true → CanFire p kind rule me local heads
-can-parts p kind rule me local heads can =
-    let a = both _ _ can in
-    let b = both _ _ a.0 in
-    let c = both _ _ b.0 in
-    let d = both _ _ c.0 in
-    let e = both _ _ d.0 in
-    let f = both _ _ e.0 in
-    let g = both _ _ f.0 in
-    record { fits = g.0; takes = g.1; up = f.1; down = e.1; sets = d.1; lock = c.1; guard = b.1; send = a.1 }
+use Rattle.hem_rows.proofs.Possible.{CanFire}
 
 all-eight : (a b c d e f g h : Bool) → a ≡ true → b ≡ true → c ≡ true → d ≡ true → e ≡ true → f ≡ true → g ≡ true → h ≡ true → (a && b && c && d && e && f && g && h) ≡ true
 all-eight a b c d e f g h ia ib ic id ie if ig ih = rw (ia, ib, ic, id, ie, if, ig, ih) refl

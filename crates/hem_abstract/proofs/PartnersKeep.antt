@@ -35,24 +35,22 @@ use Rattle.hem_fire.specs.View.{view_of}
 use Rattle.hem_fire.specs.Locks.{if_request, first_of, lock_taken, request_in_hand}
 use Rattle.hem_abstract.specs.Abstract.{Abstract, all_statuses, guard_at, atom_at, abstract_of, AreSmall}
 use Rattle.hem_abstract.specs.Partners.{after, Partner, alone, pair, happens, after_partner, changes_val, breaks, sends_val, taken_from_parent}
-use Rattle.hem_rows.proofs.Choices.{chosen, both}
-use Rattle.hem_abstract.proofs.Exact.{bits-where, guard-exact, kids_any-exact}
+use Rattle.hem_rows.proofs.Choices.{chosen, both, not-true}
+use Rattle.hem_abstract.proofs.Exact.{guard-exact, kids_any-exact}
 use Rattle.hem_abstract.proofs.AfterExact.{bits-alike, after-exact, val-exact}
 use Rattle.hem_abstract.specs.Exact.{is_me, is_targets, AreAwaited, StillStands}
 use Rattle.hem_fire.specs.OneFire.{OneFire}
 use Rattle.hem_rows.specs.Rows.{IsOfRow}
 use Rattle.hem_rows.proofs.Rows.{of_row}
-use Rattle.hem_abstract.proofs.OneRule.{Does, can-parts, names-parts}
+use Rattle.hem_rows.proofs.Bits.{bits_where-is}
+use Rattle.hem_rows.proofs.Possible.{can_parts}
+use Rattle.hem_abstract.proofs.OneRule.{Does, names-parts}
 use Rattle.hem_abstract.proofs.DownwardFrames.{imm_up, rq_down_down, rs_up_up, request-kept}
 use Rattle.hem_abstract.proofs.TemplateForms.{is-imm_up, is-rq_down_down, is-rs_up_up}
 
 -- what a template lets its rules read
 pub scope-none : (p : Protocol) (kind : Kind) (rule : Rule) (t : TemplateName) → IsOfRow p kind rule t → guard_sees_me t ≡ false → list_any reads_me rule.guard ≡ false
 scope-none p kind rule t of no_sight = not-true (list_any reads_me rule.guard) (sym (ap (λ b. b || not (list_any reads_me rule.guard)) no_sight) ∙ of.scope)
-  where
-    not-true : (b : Bool) → not b ≡ true → b ≡ false
-    not-true true is = cc
-    not-true false is = refl
 
 no-asked : (p : Protocol) (kind : Kind) (row : Row) (guard : List Atom) (at : Abstract) (a b : Option MsgId) → has_kept row.taking ≡ false → list_all (atom_fits p kind row) guard ≡ true → guard_at guard at a ≡ guard_at guard at b
 no-asked p kind row [] at a b none fits = refl
@@ -104,7 +102,7 @@ alone-keeps p kind u d me local heads next outs of once small does guarded whole
     let view = view_of (take.Parent form.0) me local heads in
     let names = names-parts p kind d (row_of ImmUp) of.names in
     let written : Does p kind (imm_up d.name form.0 d.guard d.sets form.1 form.2) me local heads next outs = subst (λ r. Does p kind r me local heads next outs) form.3 does in
-    let parts = can-parts p kind (imm_up d.name form.0 d.guard d.sets form.1 form.2) me local heads written.can in
+    let parts = can_parts p kind (imm_up d.name form.0 d.guard d.sets form.1 form.2) me local heads written.can in
     let holds_at : guard_at d.guard (abstract_of local) None ≡ true = no-asked p kind (row_of ImmUp) d.guard (abstract_of local) None (option_map (λ m. m.id) view.kept) refl names.guard ∙ guard-exact local view d.guard small (scope-none p kind d ImmUp of refl) ∙ parts.guard in
     let kept = unbroken u (alone d) (abstract_of local) guarded holds_at whole in
     let none = no-targets kind (row_of ImmUp) d.sets refl names.sets in
@@ -154,7 +152,7 @@ awaited-from set bits k all (d ∷ dir) same =
     )
 
 targets-awaited : (set : StatusSet) (dir : List Status8) → AreAwaited (has_bit (bits_where (λ k. is_in set (slice_get dir k)) (length dir))) set 0 dir
-targets-awaited set dir = awaited-from set (bits_where (λ k. is_in set (slice_get dir k)) (length dir)) 0 dir dir (λ i less. let z : 0 + i ≡ i = omega arith in (bits-where (λ k. is_in set (slice_get dir k)) (length dir) (0 + i) (omega arith), ap (slice_get dir) z))
+targets-awaited set dir = awaited-from set (bits_where (λ k. is_in set (slice_get dir k)) (length dir)) 0 dir dir (λ i less. let z : 0 + i ≡ i = omega arith in (bits_where-is (λ k. is_in set (slice_get dir k)) (length dir) (0 + i) (omega arith), ap (slice_get dir) z))
 
 -- the request that a lock keeps has the id that the rule takes
 request-id : (p : Protocol) (id : MsgId) (head : Option Message) (m : Message) → has_id head id ≡ true → if_request p head ≡ Some m → m.id ≡ id
@@ -173,8 +171,8 @@ pair-keeps p kind u q r mq mr local hq hr mid next outs_q outs_r of_q of_r once 
     let set = fq.1 in
     let wq : Does p kind (rq_down_down q.name id q.guard set fq.2 fq.3) mq local hq mid outs_q = subst (λ x. Does p kind x mq local hq mid outs_q) fq.5 does_q in
     let wr : Does p kind (rs_up_up r.name fr.0 r.guard r.sets fr.1 fr.2) mr mid hr next outs_r = subst (λ x. Does p kind x mr mid hr next outs_r) fr.3 does_r in
-    let parts_q = can-parts p kind (rq_down_down q.name id q.guard set fq.2 fq.3) mq local hq wq.can in
-    let parts_r = can-parts p kind (rs_up_up r.name fr.0 r.guard r.sets fr.1 fr.2) mr mid hr wr.can in
+    let parts_q = can_parts p kind (rq_down_down q.name id q.guard set fq.2 fq.3) mq local hq wq.can in
+    let parts_r = can_parts p kind (rs_up_up r.name fr.0 r.guard r.sets fr.1 fr.2) mr mid hr wr.can in
     let view_q = view_of (take.Parent id) mq local hq in
     let names_q = names-parts p kind q (row_of RqDownDown) of_q.names in
     let names_r = names-parts p kind r (row_of RsUpUp) of_r.names in

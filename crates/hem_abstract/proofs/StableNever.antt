@@ -15,8 +15,9 @@ use Rattle.hem_tree.specs.Tree.{below}
 use Rattle.hem_abstract.specs.Abstract.{Abstract, status, occurs, abstract_of, AreBelow, AreSmall}
 use Rattle.hem_abstract.specs.Partners.{Partner, alone, pair, breaks, IsPartner}
 use Rattle.hem_abstract.specs.Stable.{field_lists, kid_sets, abstract_states, is_of, is_imm_up, is_rq_down_down, is_rs_up_up, partners_of, first_breach, first_unstable, IsOfKind}
-use Rattle.hem_abstract.proofs.Exact.{bits-where, bits-less}
 use Rattle.hem_rows.proofs.Choices.{or_left}
+use Rattle.hem_rows.proofs.Bits.{bits_where-is}
+use Rattle.hem_object.proofs.Targets.{bits_where-lt}
 
 -- an element is one of a list's
 abbrev pub Among : {X : Type 0} → X → List X → Type 0
@@ -137,7 +138,7 @@ kids-bits dir m small few =
 
 -- a set of statuses of some child is not empty
 kids-some : (d : Status8) (dir : List Status8) (m : ℕ) → d.0 < m → 0 < bits_where (occurs (d ∷ dir)) m
-kids-some d dir m less = by_number (bits_where (occurs (d ∷ dir)) m) (bits-where (occurs (d ∷ dir)) m d.0 less ∙ or_left (d.0 == d.0) (occurs dir d.0) (eq-eqb d.0 d.0 refl))
+kids-some d dir m less = by_number (bits_where (occurs (d ∷ dir)) m) (bits_where-is (occurs (d ∷ dir)) m d.0 less ∙ or_left (d.0 == d.0) (occurs dir d.0) (eq-eqb d.0 d.0 refl))
   where
     by_number : (n : ℕ) → has_bit n d.0 ≡ true → 0 < n
     by_number zero is = let none : has_bit 0 d.0 ≡ false = grind arith in let clash : false ≡ true = sym none ∙ is in cc
@@ -152,7 +153,7 @@ inner-kids [] m small few some = absurd (some refl)
 inner-kids (d ∷ dir) m small few some =
     let e = kids-bits (d ∷ dir) m small few in
     let more = kids-some d dir m small.0 in
-    let less = bits-less (occurs (d ∷ dir)) m in
+    let less = bits_where-lt (occurs (d ∷ dir)) m in
     among-numbers (bits_where (occurs (d ∷ dir)) 8) m (omega arith) (omega arith)
 
 among-kids : (kind : Kind) (dir : List Status8) (m : ℕ) → AreBelow m dir → m ≤ 8 → (kind ≡ Leaf → dir ≡ []) → (kind ≢ Leaf → dir ≢ []) → Among (let set : StatusSet = record { 0 = bits_where (occurs dir) 8 } in set) (kid_sets kind m)

@@ -30,8 +30,9 @@ use Rattle.hem_fire.specs.Heads.{takes_there}
 use Rattle.hem_fire.specs.Locks.{lock_names, lock_by, lock_taken, awaited_by, request_in_hand}
 use Rattle.hem_object.specs.Changes.{locked}
 use Rattle.hem_rows.proofs.Choices.{both}
+use Rattle.hem_rows.proofs.Possible.{can_parts}
 use Rattle.hem_abstract.proofs.UplockUnseen.{with_up}
-use Rattle.hem_abstract.proofs.OneRule.{can-parts, can-whole, Does, send-parent-same}
+use Rattle.hem_abstract.proofs.OneRule.{can-whole, Does, send-parent-same}
 
 -- an upward request takes a child's request, or nothing
 abbrev pub TakesAbove : Take → Type 0
@@ -58,7 +59,7 @@ lock-there by view (Some m) targets names = holder (lock_by by view) (both (is_s
 moves : (p : Protocol) (kind : Kind) (name : RuleId) (t : Take) (guard : List Atom) (by : Origin) (request : MsgId) (v : Value) (me : Option ℕ) (local local' : Local) (heads : Heads) (next : Local) (outs : Outs) (w : View) → view_of t me local heads ≡ w → view_of t me local' heads ≡ w → takes_there t local' heads ≡ takes_there t local heads → request_in_hand p t (send.Parent request v) local' w heads ≡ request_in_hand p t (send.Parent request v) local w heads → Does p kind (rq_up name t guard by request v) me local heads next outs → local'.up ≡ None → local'.down ≡ None → length local'.dir ≡ length local.dir → holds guard local' w ≡ true → value_of v local' w ≡ value_of v local w → (lock : Lock) × (next ≡ with_up (Some lock) local) × Does p kind (rq_up name t guard by request v) me local' heads (with_up (Some lock) local') outs
 moves p kind name t guard by request v me local local' heads next outs w view view' there hand does up down size guarded value =
     let rule = rq_up name t guard by request v in
-    let parts = can-parts p kind rule me local heads does.can in
+    let parts = can_parts p kind rule me local heads does.can in
     let locks : lock_names (Some (side.Up, by)) w (request_in_hand p t (send.Parent request v) local w heads) ≡ true = subst (λ x. lock_names (Some (side.Up, by)) x (request_in_hand p t (send.Parent request v) local x heads) ≡ true) view parts.lock in
     let taken = lock-there by w (request_in_hand p t (send.Parent request v) local w heads) nobody locks in
     let here : local_after p kind rule me local heads ≡ with_up (Some taken.0) local = ap (λ x. option_map_or (λ l. locked l.0 l.1 local) (lock_taken (Some (side.Up, by)) x (request_in_hand p t (send.Parent request v) local x heads) nobody) local) view ∙ ap (λ x. option_map_or (λ l. locked l.0 l.1 local) x local) taken.1 in

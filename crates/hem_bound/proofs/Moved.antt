@@ -22,10 +22,11 @@ use Rattle.hem_locks.specs.Edges.{one_if}
 use Rattle.hem_rows.proofs.Choices.{both}
 use Rattle.hem_locks.proofs.Counts.{changed, length-changed}
 use Rattle.hem_locks.proofs.Places.{named_head}
-use Rattle.hem_locks.proofs.Lines.{get_map_each, head_of, me_there}
-use Rattle.hem_locks.proofs.Still.{there}
+use Rattle.hem_locks.proofs.Lines.{head_of, me_there}
 use Rattle.hem_bound.specs.Sums.{total}
 use Rattle.hem_bound.specs.Potential.{up_weight, down_weight, lock_weight, cell_potential, potential}
+use Rattle.hem_system.proofs.Own.{slice_get-map_each}
+use Rattle.hem_tree.proofs.Lawful.{get_within}
 use Rattle.hem_bound.proofs.Sums.{total_adds, total_same_below, total_at_most}
 
 -- the weight of a list after a firing
@@ -119,7 +120,7 @@ module _ (p : Protocol) (tree : Tree) (line : Line) (f : Firing) (e : Effect) (i
   potential_at l k = option_map_or (cell_potential tree k) (slice_get l k) 0
 
   after_at : (k : ℕ) → slice_get (line_after tree f e line) k ≡ option_map (cell_after tree f e (0 + k)) (slice_get line k)
-  after_at k = get_map_each (cell_after tree f e) 0 line k
+  after_at k = slice_get-map_each (cell_after tree f e) 0 line k
 
   -- the potential of an object that is there, after a firing
   object_moved : (k : ℕ) (cell : Cell) → slice_get line k ≡ Some cell → potential_at (line_after tree f e line) k + taken_at k ≡ potential_at line k + sent_at k
@@ -176,5 +177,5 @@ module _ (p : Protocol) (tree : Tree) (line : Line) (f : Firing) (e : Effect) (i
   pub line_moved_whole : length line ≡ length tree → potential tree (line_after tree f e line) + all_taken ≡ potential tree line + all_sent
   line_moved_whole size =
       let n = length tree in
-      let same = total_same_below n (λ k. potential_at (line_after tree f e line) k + taken_at k) (λ k. potential_at line k + sent_at k) (λ k inside. let cell = there line k (omega (arith, size, inside)) in object_moved k cell.0 cell.1) in
+      let same = total_same_below n (λ k. potential_at (line_after tree f e line) k + taken_at k) (λ k. potential_at line k + sent_at k) (λ k inside. let cell = get_within line k (omega (arith, size, inside)) in object_moved k cell.0 cell.1) in
       omega (arith, same, total_adds n (potential_at (line_after tree f e line)) taken_at, total_adds n (potential_at line) sent_at, taken_parts, sent_parts)

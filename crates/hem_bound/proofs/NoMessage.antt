@@ -25,12 +25,12 @@ use Rattle.hem_system.proofs.Kids.{at_child}
 use Rattle.hem_rows.specs.Acts.{IsNeeded, takes_me, takes_parent, takes_kids}
 use Rattle.hem_locks.specs.Edges.{LocksHold}
 use Rattle.hem_rows.proofs.Choices.{if_mapped}
-use Rattle.hem_locks.proofs.Still.{there}
 use Rattle.hem_rows.specs.Rows.{AllHaveTemplates}
 use Rattle.hem_locks.specs.Acted.{IsActed}
 use Rattle.hem_rows.proofs.Bits.{no_bit}
 use Rattle.hem_locks.proofs.Acted.{acted}
 use Rattle.hem_bound.specs.Starts.{is_start, TakesMessage}
+use Rattle.hem_tree.proofs.Lawful.{get_within}
 use Rattle.hem_bound.proofs.ByTemplate.{starts_by}
 use Rattle.hem_bound.proofs.Firings.{start_is}
 
@@ -119,7 +119,7 @@ some_message p tree line f e templates holds possible other = by_taking (row_of 
         let down : cell.0.local.down ≡ Some lock.0 = ap (λ (l : Local). l.down) cell.2 ∙ lock.1 in
         let one = object.awaits lock.0 down in
         let inside = one.there in
-        let child = there (children_of tree o) one.kid (omega (arith, inside, object.children)) in
+        let child = get_within (children_of tree o) one.kid (omega (arith, inside, object.children)) in
         let at = at_child tree o one.kid child.0 child.1 in
         let kids : e.outs.taken_kids ≡ lock.0.awaited = is ∙ ap (λ (l : Option Lock). option_map_or (λ lock. lock.awaited) l nobody) lock.1 in
         let bit : has_bit e.outs.taken_kids.0 (place_among tree o child.0) ≡ true = ap (λ (s : KidSet). has_bit s.0 (place_among tree o child.0)) kids ∙ ap (has_bit lock.0.awaited.0) at.1 ∙ one.awaited in

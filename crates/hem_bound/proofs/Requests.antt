@@ -25,9 +25,10 @@ use Rattle.hem_locks.proofs.Counts.{length-changed}
 use Rattle.hem_rows.proofs.Rows.{of_row}
 use Rattle.hem_locks.proofs.Places.{within}
 use Rattle.hem_locks.proofs.Acted.{acted}
-use Rattle.hem_locks.proofs.Lines.{get_map_each, head_of, me_there}
+use Rattle.hem_locks.proofs.Lines.{head_of, me_there}
 use Rattle.hem_locks.proofs.States.{made}
 use Rattle.hem_bound.specs.Starts.{takes_request, is_asked, requests_on, requests_left}
+use Rattle.hem_system.proofs.Own.{slice_get-map_each}
 use Rattle.hem_bound.proofs.Sums.{total_adds, total_at_most, total_has}
 use Rattle.hem_bound.proofs.Moved.{nothing_at}
 use Rattle.hem_bound.proofs.Firings.{rule_is}
@@ -84,7 +85,7 @@ module _ (p : Protocol) (tree : Tree) (line : Line) (f : Firing) (e : Effect) (i
   place_left k = by_cell (slice_get line k) refl
     where
       after : slice_get (line_after tree f e line) k ≡ option_map (cell_after tree f e (0 + k)) (slice_get line k)
-      after = get_map_each (cell_after tree f e) 0 line k
+      after = slice_get-map_each (cell_after tree f e) 0 line k
 
       by_cell : (c : Option Cell) → slice_get line k ≡ c → left_at (line_after tree f e line) k + taken_at k ≤ left_at line k
       by_cell None none =

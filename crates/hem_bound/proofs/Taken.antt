@@ -1,9 +1,8 @@
 -- The weight of what a firing takes and sends, by the row of its rule's template.
 use Rattle.std.proofs.Common.{◌≡◌, refl, ap, sym, ◌∙◌, ℕ, ◌+◌, ◌*◌, ◌≤◌, ◌<◌, length, Bool, true, false, ◌&&◌, cond, arith, Option, Some, None, ◌≢◌, inl, inr, ◌⊎◌}
-use Rattle.std.specs.Prelude.{◌==◌, is_some, slice_get}
+use Rattle.std.specs.Prelude.{◌==◌, is_some}
 use Rattle.std.specs.Option.{option_map_or}
 use Rattle.std.proofs.lemmas.Bool.Decides.{eqb_tells}
-use Rattle.std.proofs.lemmas.Option.{slice_get_within}
 use Rattle.hem_base.specs.Sets.{has_bit}
 use Rattle.hem_base.specs.declared.ids.KidSet.{KidSet}
 use Rattle.hem_base.specs.declared.ids.Kind.{Kind}
@@ -25,21 +24,17 @@ use Rattle.hem_system.specs.declared.lane.Lane.TheVariants.{UpRequests, Down}
 use Rattle.hem_system.specs.State.{Effect, takes, reaches, is_own_child}
 use Rattle.hem_system.proofs.Takers.{parent_is}
 use Rattle.hem_rows.specs.Acts.{takes_me, takes_parent, IsSent}
-use Rattle.hem_rows.proofs.Choices.{if_some}
 use Rattle.hem_locks.proofs.Sums.{reaches_kid, is_up_request, to_requester-up}
 use Rattle.hem_bound.specs.Sums.{total}
 use Rattle.hem_bound.specs.Sizes.{size_of, sizes_where}
 use Rattle.hem_bound.specs.Potential.{up_weight, down_weight, kid_size, lock_weight}
 use Rattle.hem_bound.specs.Changes.{request_weight, asked_size, targets_size}
+use Rattle.hem_locks.proofs.Still.{child_within}
 use Rattle.hem_bound.proofs.Sums.{total_none, total_same, total_twice, total_one}
 use Rattle.hem_bound.proofs.Sizes.{equal_turned}
 use Rattle.hem_bound.proofs.Levels.{weight_step, weight_least}
 use Rattle.hem_bound.proofs.ByTemplate.{if_asked, if_told, if_asks, sent_by}
 use Rattle.hem_bound.proofs.Moved.{up_taken, down_taken, up_sent, down_sent, lock_there}
-
--- a child is in the tree
-child_inside : (tree : Tree) (k o : ℕ) → parent_of tree k ≡ Some o → k < length tree
-child_inside tree k o parent = let node = if_some (λ node. node.parent) (slice_get tree k) o parent in slice_get_within tree k node.0 node.1
 
 -- where nothing is taken
 nothing_taken-is : (n : ℕ) (takes : ℕ → Bool) (w : ℕ → ℕ) → ((k : ℕ) → takes k ≡ false) → total n (λ k. cond (takes k) (w k) 0) ≡ 0
@@ -63,7 +58,7 @@ up_taken-is tree f e taking own taken = by_taking taking taken
         (λ k. ap (λ (me : Option ObjectId). cond (e.outs.taken_request && option_map_or (λ child. child.0 == k) me false && is_child tree k o) (up_weight tree k) 0) named
         ∙ ap (λ b. cond (b && child.0 == k && is_child tree k o) (up_weight tree k) 0) is
         ∙ ap (λ b. cond b (up_weight tree k) 0) (one k (eqb_tells k child.0) is_own))
-        ∙ total_one (length tree) child.0 (up_weight tree) (child_inside tree child.0 o (parent_is tree child.0 o is_own))
+        ∙ total_one (length tree) child.0 (up_weight tree) (child_within tree child.0 o (parent_is tree child.0 o is_own))
       where
         one : (k : ℕ) → ((k == child.0) ≡ true) × (k ≡ child.0) ⊎ ((k == child.0) ≡ false) × (k ≢ child.0) → is_child tree child.0 o ≡ true → (child.0 == k && is_child tree k o) ≡ (k == child.0)
         one k (inl same) is_own = ap (λ b. b && is_child tree k o) (equal_turned child.0 k ∙ same.0) ∙ ap (λ n. is_child tree n o) same.1 ∙ is_own ∙ sym same.0

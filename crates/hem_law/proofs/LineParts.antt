@@ -1,23 +1,18 @@
 -- A line by its objects' local states and its lists.
-use Rattle.std.proofs.Common.{◌≡◌, ◌≢◌, refl, ap, ◌∙◌, ℕ, zero, suc, ◌+◌, ◌≤◌, Bool, true, false, cond, List, [], ◌∷◌, drop, length, arith, add-zero, Option, Some, None}
+use Rattle.std.proofs.Common.{◌≡◌, ◌≢◌, refl, ap, ◌∙◌, ℕ, zero, suc, ◌+◌, ◌≤◌, Bool, true, false, cond, List, [], ◌∷◌, drop, length, arith, Option, Some, None}
 use Rattle.std.specs.Prelude.{◌==◌, slice_get, option_map}
 use Rattle.std.specs.Option.{option_map_or}
 use Rattle.std.proofs.lemmas.Option.{slice_get_past}
 use Rattle.hem_base.specs.declared.ids.Message.{Message}
 use Rattle.hem_base.specs.declared.ids.Firing.{Firing}
-use Rattle.hem_fire.specs.declared.outs.To.{To}
-use Rattle.hem_fire.specs.declared.outs.To.TheVariants as to
 use Rattle.hem_system.specs.declared.lane.Lane.{Lane}
 use Rattle.hem_system.specs.declared.lane.Lane.TheVariants.{UpRequests, UpResponses, Down, Requests, Answers}
 use Rattle.hem_tree.specs.Tree.{Tree, is_child}
 use Rattle.hem_object.specs.Local.{Local}
 use Rattle.hem_system.specs.State.{Cell, Line, Effect, map_each, list_of, list_at, list_after, cell_after, line_after, local_at, takes, reaches}
 use Rattle.hem_rows.proofs.Choices.{not_same}
-
-pub slice_get-map_each : {A B : Type 0} (f : ℕ → A → B) (i k : ℕ) (xs : List A) → slice_get (map_each f i xs) k ≡ option_map (f (i + k)) (slice_get xs k)
-slice_get-map_each f i k [] = refl
-slice_get-map_each f i zero (x ∷ xs) = rw add-zero refl
-slice_get-map_each f i (suc k) (x ∷ xs) = let e : (i + 1) + k ≡ i + suc k = omega arith in rw (slice_get-map_each f (i + 1) k xs, e) refl
+use Rattle.hem_system.proofs.Changed.{not_reached}
+use Rattle.hem_system.proofs.Own.{slice_get-map_each}
 
 pub length-map_each : {A B : Type 0} (f : ℕ → A → B) (i : ℕ) (xs : List A) → length (map_each f i xs) ≡ length xs
 length-map_each f i [] = refl
@@ -44,15 +39,6 @@ no_child_outside tree line k o size none =
     let gone = slice_get_past tree k past in
     rw gone refl
 
--- a firing at another object sends nothing to an object that is no child of it
-no_send : (tree : Tree) (f : Firing) (t : To) (k : ℕ) (lane : Lane) → (k == f.object.0) ≡ false → is_child tree k f.object.0 ≡ false → reaches tree f t k lane ≡ false
-no_send tree f to.Answer k Answers other no_child = other
-no_send tree f to.UpRequest k UpRequests other no_child = other
-no_send tree f to.UpResponse k UpResponses other no_child = other
-no_send tree f (to.Kid c) k Down other no_child = rw no_child refl
-no_send tree f (to.Kids set) k Down other no_child = rw no_child refl
-no_send tree f _ k _ other no_child = refl
-
 -- dropping from nothing
 drop_nothing : (b : Bool) → drop (cond b 1 0) (let none : List Message = [] in none) ≡ []
 drop_nothing true = refl
@@ -65,8 +51,8 @@ list-in tree f e k lane None none = rw (drop_nothing (takes tree f e.outs k lane
 
 pub list_at-after : (tree : Tree) (line : Line) (f : Firing) (e : Effect) (now : Local) (k : ℕ) (lane : Lane) → length line ≡ length tree → local_at line f.object.0 ≡ Some now → list_at (line_after tree f e line) k lane ≡ list_after tree f e.outs k lane (list_at line k lane)
 list_at-after tree line f e now k lane size here =
-    ap (λ c. option_map_or (λ cell. list_of cell lane) c []) (slice_get-map_each (cell_after tree f e) 0 k line ∙ ap (λ i. option_map (cell_after tree f e i) (slice_get line k)) (let z : 0 + k ≡ k = omega arith in z))
-    ∙ list-in tree f e k lane (slice_get line k) (λ none. no_send tree f e.outs.to k lane (not_same k f.object.0 (λ same. let there : option_map (λ cell. cell.local) (slice_get line k) ≡ Some now = ap (local_at line) same ∙ here in outside none there)) (no_child_outside tree line k f.object.0 size none))
+    ap (λ c. option_map_or (λ cell. list_of cell lane) c []) (slice_get-map_each (cell_after tree f e) 0 line k ∙ ap (λ i. option_map (cell_after tree f e i) (slice_get line k)) (let z : 0 + k ≡ k = omega arith in z))
+    ∙ list-in tree f e k lane (slice_get line k) (λ none. not_reached tree f e.outs.to k lane (not_same k f.object.0 (λ same. let there : option_map (λ cell. cell.local) (slice_get line k) ≡ Some now = ap (local_at line) same ∙ here in outside none there)) (no_child_outside tree line k f.object.0 size none))
   where
     outside : slice_get line k ≡ None → option_map (λ cell. cell.local) (slice_get line k) ≡ Some now → ⊥
     outside none there = let gone : option_map {T = Cell} (λ cell. cell.local) None ≡ Some now = rw none at there in cc
@@ -74,7 +60,7 @@ list_at-after tree line f e now k lane size here =
 -- the local state of a cell after a firing
 pub local_at-after : (tree : Tree) (line : Line) (f : Firing) (e : Effect) (k : ℕ) → local_at (line_after tree f e line) k ≡ option_map (λ l. cond (k == f.object.0) e.after l) (local_at line k)
 local_at-after tree line f e k =
-    ap (option_map (λ cell. cell.local)) (slice_get-map_each (cell_after tree f e) 0 k line ∙ ap (λ i. option_map (cell_after tree f e i) (slice_get line k)) (let z : 0 + k ≡ k = omega arith in z)) ∙ twice (slice_get line k)
+    ap (option_map (λ cell. cell.local)) (slice_get-map_each (cell_after tree f e) 0 line k ∙ ap (λ i. option_map (cell_after tree f e i) (slice_get line k)) (let z : 0 + k ≡ k = omega arith in z)) ∙ twice (slice_get line k)
   where
     twice : (cell : Option Cell) → option_map (λ cell. cell.local) (option_map (cell_after tree f e k) cell) ≡ option_map (λ l. cond (k == f.object.0) e.after l) (option_map (λ cell. cell.local) cell)
     twice None = refl

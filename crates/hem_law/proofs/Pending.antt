@@ -32,9 +32,10 @@ use Rattle.hem_rows.proofs.Choices.{chosen}
 use Rattle.hem_law.proofs.OwnEffect.{IsOwnEffect, own_effect-parts}
 use Rattle.hem_rows.proofs.Rows.{of_row}
 use Rattle.hem_abstract.proofs.UplockUnseen.{with_up}
-use Rattle.hem_abstract.proofs.OneRule.{Does, can-parts}
+use Rattle.hem_abstract.proofs.OneRule.{Does}
 use Rattle.hem_abstract.proofs.UpwardMoves.{rq_up, rq_up-moves, rq_up_self-moves}
 use Rattle.hem_abstract.proofs.TemplateForms.{is-rq_up, is-rq_up_self, imm_up-unseen, rq_down_down-unseen, rs_up_up-unseen}
+use Rattle.hem_rows.proofs.Possible.{can_parts}
 use Rattle.hem_law.proofs.DirLength.{local_after-length}
 
 -- an effect that is there, by its fields
@@ -141,7 +142,7 @@ rule-moves p kind rule me local later heads next outs _ is upward does up down s
 pub rule-free : (p : Protocol) (kind : Kind) (rule : Rule) (me : Option ℕ) (local : Local) (heads : Heads) (next : Local) (outs : Outs) (t : Result TemplateName Clause) → template_of p kind rule ≡ t → is_upward_template t ≡ true → Does p kind rule me local heads next outs → (local.up ≡ None) × (local.down ≡ None)
 rule-free p kind rule me local heads next outs (Ok RqUp) is upward does =
     let form = is-rq_up p kind rule (of_row p kind rule RqUp is) in
-    let parts = can-parts p kind (rq_up rule.name (take.Me form.0) rule.guard origin.Child form.1 form.2) me local heads (subst (λ r. can_fire p kind r me local heads ≡ true) form.3 does.can) in
+    let parts = can_parts p kind (rq_up rule.name (take.Me form.0) rule.guard origin.Child form.1 form.2) me local heads (subst (λ r. can_fire p kind r me local heads ≡ true) form.3 does.can) in
     (none_there local.up parts.up, none_there local.down parts.down)
   where
     none_there : (lock : Option Lock) → is_none lock ≡ true → lock ≡ None
@@ -149,7 +150,7 @@ rule-free p kind rule me local heads next outs (Ok RqUp) is upward does =
     none_there (Some lock) is = cc
 rule-free p kind rule me local heads next outs (Ok RqUpSelf) is upward does =
     let form = is-rq_up_self p kind rule (of_row p kind rule RqUpSelf is) in
-    let parts = can-parts p kind (rq_up rule.name take.Nothing rule.guard origin.Own form.0 form.1) me local heads (subst (λ r. can_fire p kind r me local heads ≡ true) form.2 does.can) in
+    let parts = can_parts p kind (rq_up rule.name take.Nothing rule.guard origin.Own form.0 form.1) me local heads (subst (λ r. can_fire p kind r me local heads ≡ true) form.2 does.can) in
     (none_there local.up parts.up, none_there local.down parts.down)
   where
     none_there : (lock : Option Lock) → is_none lock ≡ true → lock ≡ None

@@ -21,9 +21,10 @@ use Rattle.hem_law.specs.Flows.{IsFirst, IsFlow}
 use Rattle.hem_law.specs.Leads.{Leads}
 use Rattle.hem_system.proofs.TakenHeads.{own_effect-enough}
 use Rattle.hem_rows.proofs.Choices.{both, if_some, if_mapped}
+use Rattle.hem_system.proofs.Own.{slice_get-map_each}
 use Rattle.hem_law.proofs.OwnEffect.{own_effect-parts, own_effect-took}
 use Rattle.hem_law.proofs.Children.{at_bits, heads-met}
-use Rattle.hem_law.proofs.LineParts.{slice_get-map_each, length-map_each, list_at-after, local_at-after}
+use Rattle.hem_law.proofs.LineParts.{length-map_each, list_at-after, local_at-after}
 use Rattle.hem_law.proofs.Taken.{HasMessage, TakesThere, takes-there, kid-at}
 use Rattle.hem_law.proofs.LawRun.{own-first, own-other}
 
@@ -56,7 +57,7 @@ kid-first tree line o k set takes there =
     let at = kid-at tree o k (λ k. head_at line k UpResponses) parts.0 in
     let has = there (place_among tree o k) (head_at line k UpResponses) parts.1 at in
     let bit : has_bit set (0 + place_among tree o k) ≡ true = let e : 0 + place_among tree o k ≡ place_among tree o k = omega arith in rw e parts.1 in
-    let head = ap (option_and_then (λ head. head)) (slice_get-map_each (λ k head. cond (has_bit set k) head None) 0 (place_among tree o k) (map (λ k. head_at line k UpResponses) (children_of tree o)) ∙ ap (option_map (λ head. cond (has_bit set (0 + place_among tree o k)) head None)) at) in
+    let head = ap (option_and_then (λ head. head)) (slice_get-map_each (λ k head. cond (has_bit set k) head None) 0 (map (λ k. head_at line k UpResponses) (children_of tree o)) (place_among tree o k) ∙ ap (option_map (λ head. cond (has_bit set (0 + place_among tree o k)) head None)) at) in
     (has.0, has.1, head ∙ ap (λ b. cond b (head_at line k UpResponses) None) bit ∙ has.1)
 
 -- a firing sees the first message of each list that it takes from

@@ -20,7 +20,7 @@ use Rattle.hem_trace.specs.Blocks.{Each}
 use Rattle.hem_abstract.specs.Stable.{IsOfKind}
 use Rattle.hem_law.specs.Kinds.{AreOfKinds}
 use Rattle.hem_rows.proofs.Choices.{both, if_mapped}
-use Rattle.hem_law.proofs.LineParts.{slice_get-map_each}
+use Rattle.hem_system.proofs.Own.{slice_get-map_each}
 
 -- the statuses at the start are declared
 starts-declared : (p : Protocol) (fields : List (Text × Status8)) → list_all (λ (f : Text × Status8). nat_lt f.1.0 (length p.statuses)) fields ≡ true → Each (IsStatus p) (map (λ (f : Text × Status8). f.1) fields)
@@ -92,7 +92,7 @@ first-at : (p : Protocol) (tree : Tree) (requests : ℕ → List Message) (o : �
 first-at p tree requests o local at =
     let z : 0 + o ≡ o = omega arith in
     let cell = if_mapped (λ (c : Cell). c.local) (slice_get (first_line p tree requests) o) local at in
-    let node = if_mapped (first_cell p tree requests (0 + o)) (slice_get tree o) cell.0 (sym (slice_get-map_each (first_cell p tree requests) 0 o tree) ∙ cell.1) in
+    let node = if_mapped (first_cell p tree requests (0 + o)) (slice_get tree o) cell.0 (sym (slice_get-map_each (first_cell p tree requests) 0 tree o) ∙ cell.1) in
     (node.0, node.1, ap (λ k. first_local p node.0.kind (length (children_of tree k))) (sym z) ∙ ap (λ (c : Cell). c.local) node.2 ∙ cell.2)
 
 pub start-kinds : (p : Protocol) (tree : Tree) (work : Work) → IsProtocol p → IsTree tree → AreOfKinds p tree (start p tree work)

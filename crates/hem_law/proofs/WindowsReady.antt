@@ -34,12 +34,13 @@ use Rattle.hem_rows.proofs.Choices.{if_some}
 use Rattle.hem_law.proofs.OwnEffect.{own_effect-parts}
 use Rattle.hem_abstract.proofs.Exact.{guard-exact}
 use Rattle.hem_rows.proofs.Rows.{of_row}
-use Rattle.hem_abstract.proofs.OneRule.{Does, can-parts}
+use Rattle.hem_abstract.proofs.OneRule.{Does}
 use Rattle.hem_law.proofs.Pending.{does-from, of-template, rule-free, rule-moves}
 use Rattle.hem_abstract.proofs.PartnersKeep.{scope-none}
 use Rattle.hem_syntax.specs.Lawful.{IsProtocol}
 use Rattle.hem_abstract.specs.Stable.{first_unstable, IsOfKind}
 use Rattle.hem_abstract.proofs.StableNever.{stable-never, of-kind-small}
+use Rattle.hem_rows.proofs.Possible.{can_parts}
 use Rattle.hem_law.proofs.KindKept.{sets-fit, of-kind-next}
 use Rattle.hem_law.proofs.BlocksReady.{IsSteady, if-template, blocks-stand}
 
@@ -103,7 +104,7 @@ blocks-ready p tree kind rule Fits before after u others steady there named upwa
     let rule_is : parts.rule ≡ rule = (let both : Some parts.rule ≡ Some rule = sym parts.named ∙ ap (λ k. rule_named p k e.firing.rule) kind_is ∙ named in cc) in
     let made : Does p kind rule me before heads held e.outs = subst (λ l. Does p kind rule me l heads held e.outs) same (subst (λ r. Does p kind r me step.now heads held e.outs) rule_is (subst (λ k. Does p k parts.rule me step.now heads held e.outs) kind_is does)) in
     let fits_template : is_upward_template (template_of p kind rule) ≡ true = of-template p tree e.firing is_upward_template kind rule there named upward in
-    let can = can-parts p kind rule me before heads made.can in
+    let can = can_parts p kind rule me before heads made.can in
     let view = view_of rule.take me before heads in
     let kept = no-kept p kind rule me before heads (template_of p kind rule) refl fits_template in
     let free = rule-free p kind rule me before heads held e.outs (template_of p kind rule) refl fits_template made in

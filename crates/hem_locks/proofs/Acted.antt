@@ -1,5 +1,5 @@
 -- A firing on a line, where each rule has a template.
-use Rattle.std.proofs.Common.{◌≡◌, refl, ap, sym, ℕ, Bool, true, false, cond, Option, Some, None}
+use Rattle.std.proofs.Common.{◌≡◌, ap, sym, ℕ, Option, Some}
 use Rattle.hem_base.specs.declared.ids.Firing.{Firing}
 use Rattle.hem_base.specs.declared.ids.Kind.{Kind}
 use Rattle.hem_syntax.specs.declared.rule.Rule.{Rule}
@@ -10,16 +10,11 @@ use Rattle.hem_tree.specs.Tree.{Tree, kind_of}
 use Rattle.hem_system.specs.State.{Line, Effect, local_at, heads_of, taken_heads, is_own_child, place_of_me, rule_effect, own_effect, effect_of}
 use Rattle.hem_rows.specs.Rows.{AllHaveTemplates}
 use Rattle.hem_locks.specs.Acted.{IsActed}
-use Rattle.hem_rows.proofs.Choices.{if_some, if_passed}
+use Rattle.hem_rows.proofs.Choices.{if_some, if_passed, chosen}
 use Rattle.hem_rows.proofs.Acts.{acts_by_template}
 
--- what is chosen where a test holds
-chosen : {A : Type 0} (b : Bool) (x y : A) → cond b (Some x) None ≡ Some y → (b ≡ true) × (x ≡ y)
-chosen true x y is = (refl, cc)
-chosen false x y is = cc
-
 -- the effect of a rule is that of one firing of it
-fired : (p : Protocol) (kind : Kind) (rule : Rule) (me : Option ℕ) (local : Local) (heads : Heads) (e : Effect) → rule_effect p kind rule me local heads ≡ Some e → OneFire p kind rule me local heads e.after e.outs
+pub fired : (p : Protocol) (kind : Kind) (rule : Rule) (me : Option ℕ) (local : Local) (heads : Heads) (e : Effect) → rule_effect p kind rule me local heads ≡ Some e → OneFire p kind rule me local heads e.after e.outs
 fired p kind rule me local heads e is =
     let outs = outs_of p kind rule me local heads in
     let it = chosen (can_fire p kind rule me local heads) (let made : Effect = record { after = local_after p kind rule me local heads; took = taken_heads outs heads; outs = outs } in made) e is in

@@ -22,7 +22,7 @@ changed takes sends m ms = drop (cond takes 1 0) ms ++ cond sends (m ∷ []) []
 abbrev pub head_counts : (Message → Bool) → Bool → List Message → ℕ
 head_counts test takes ms = cond takes (option_map_or (λ m. one_if (test m)) (slice_get ms 0) 0) 0
 
-count-append : (test : Message → Bool) (xs ys : List Message) → count test (xs ++ ys) ≡ count test xs + count test ys
+pub count-append : (test : Message → Bool) (xs ys : List Message) → count test (xs ++ ys) ≡ count test xs + count test ys
 count-append test xs ys = rw (filter-append test xs ys) (length-append (filter test xs) (filter test ys))
 
 count-one : (test : Message → Bool) (sends : Bool) (m : Message) → count test (cond sends (m ∷ []) []) ≡ cond sends (one_if (test m)) 0

@@ -26,17 +26,18 @@ use Rattle.hem_locks.specs.Edges.{count, LocksHold, AllLocksHold}
 use Rattle.hem_locks.specs.Allowed.{HasTemplate, FreesDownlock, ServesItsParent}
 use Rattle.hem_locks.specs.Clean.{AreFew, AreInLine, AreCleanAt, IsStill, LineIsStill, HoldsNone}
 use Rattle.hem_rows.proofs.Choices.{both}
+use Rattle.hem_tree.proofs.Lawful.{get_within}
 use Rattle.hem_locks.proofs.Acted.{acted}
 use Rattle.hem_locks.proofs.Clean.{few, is_empty}
 use Rattle.hem_locks.proofs.Allowed.{down_freed, waiting_serves, requests_clean}
-use Rattle.hem_locks.proofs.Still.{there, none_held}
+use Rattle.hem_locks.proofs.Still.{none_held}
 
 -- the parent of an object that is on the line is there too
 pub parent_there : (p : Protocol) (tree : Tree) (line : Line) (o high : ℕ) (cell : Cell) → IsTree tree → parent_of tree o ≡ Some high → slice_get line o ≡ Some cell → (upper : Cell) × (slice_get line high ≡ Some upper)
 parent_there p tree line o high cell lawful parent at =
     let early = (lawful_early tree lawful).early o high parent in
     let inside = slice_get_within line o cell at in
-    there line high (omega arith)
+    get_within line high (omega arith)
 
 -- the lists of each object's edge are short
 pub few_messages : (p : Protocol) (tree : Tree) (line : Line) (o : ℕ) (cell : Cell) → IsTree tree → LocksHold p tree line → slice_get line o ≡ Some cell → AreFew cell

@@ -1,5 +1,5 @@
 -- A firing keeps the invariant of locks at each edge of its line.
-use Rattle.std.proofs.Common.{◌≡◌, ◌≢◌, refl, ap, sym, ◌∙◌, subst, ℕ, zero, suc, ◌+◌, ◌≤◌, true, false, ◌&&◌, cond, List, [], ◌∷◌, arith, add-zero, zero-add, Option, Some, None, inl, inr, ◌⊎◌}
+use Rattle.std.proofs.Common.{◌≡◌, ◌≢◌, refl, ap, sym, ◌∙◌, subst, ℕ, ◌+◌, ◌≤◌, true, false, ◌&&◌, cond, List, [], arith, zero-add, Option, Some, None, inl, inr, ◌⊎◌}
 use Rattle.std.specs.Prelude.{◌==◌, slice_get, option_map}
 use Rattle.std.specs.Option.{option_map_or}
 use Rattle.std.proofs.lemmas.Bool.Decides.{eqb_tells}
@@ -18,26 +18,22 @@ use Rattle.hem_tree.specs.Tree.{Tree, IsTree, parent_of, is_child, place_among}
 use Rattle.hem_tree.proofs.Early.{lawful_early}
 use Rattle.hem_system.specs.declared.lane.Lane.{Lane}
 use Rattle.hem_system.specs.declared.lane.Lane.TheVariants.{UpRequests, UpResponses, Down}
-use Rattle.hem_system.specs.State.{Cell, Line, Effect, map_each, list_of, head_at, local_at, heads_of, place_of_me, takes, cell_after, line_after}
+use Rattle.hem_system.specs.State.{Cell, Line, Effect, list_of, head_at, local_at, heads_of, place_of_me, takes, cell_after, line_after}
 use Rattle.hem_system.proofs.Changed.{lists_stay, not_same, is_same}
 use Rattle.hem_rows.specs.Acts.{IsThere, takes_me, takes_kids, AreHeads}
 use Rattle.hem_locks.specs.Acted.{IsActed}
 use Rattle.hem_locks.specs.Edges.{for_kid, awaits, EdgeHolds, CellsHold, EdgesHold}
 use Rattle.hem_rows.proofs.Choices.{both, if_mapped}
 use Rattle.hem_rows.proofs.Bits.{no_bit}
+use Rattle.hem_system.proofs.Own.{slice_get-map_each}
 use Rattle.hem_locks.proofs.EdgeStep.{Flow, Balances, edge_after}
 use Rattle.hem_locks.proofs.LockNumbers.{one_if-few}
 use Rattle.hem_locks.proofs.Sums.{SumsAbove, SumsBelow, sums_above, sums_below}
 use Rattle.hem_locks.proofs.Places.{flow_of, flow_above, flow_below, named_head, kid_head, child_of, other_child, not_own_child, no_leaf}
 
 -- the cells of a line after a firing
-pub get_map_each : {A B : Type 0} (g : ℕ → A → B) (k : ℕ) (xs : List A) (i : ℕ) → slice_get (map_each g k xs) i ≡ option_map (g (k + i)) (slice_get xs i)
-get_map_each g k [] i = refl
-get_map_each g k (x ∷ xs) zero = rw add-zero refl
-get_map_each g k (x ∷ xs) (suc i) = let e : (k + 1) + i ≡ k + suc i = omega arith in rw (get_map_each g (k + 1) xs i, e) refl
-
 pub cell_now : (tree : Tree) (f : Firing) (e : Effect) (line : Line) (k : ℕ) (new : Cell) → slice_get (line_after tree f e line) k ≡ Some new → (old : Cell) × (slice_get line k ≡ Some old) × (cell_after tree f e k old ≡ new)
-cell_now tree f e line k new at = if_mapped (cell_after tree f e k) (slice_get line k) new (sym (rw zero-add at (get_map_each (cell_after tree f e) 0 line k)) ∙ at)
+cell_now tree f e line k new at = if_mapped (cell_after tree f e k) (slice_get line k) new (sym (rw zero-add at (slice_get-map_each (cell_after tree f e) 0 line k)) ∙ at)
 
 -- the local state of an object that is there
 pub local_of : (line : Line) (o : ℕ) (cell : Cell) (local : Local) → slice_get line o ≡ Some cell → local_at line o ≡ Some local → local ≡ cell.local

@@ -21,9 +21,10 @@ use Rattle.hem_system.proofs.Sets.{get_set_here, get_set_other}
 use Rattle.hem_rows.specs.Rows.{AllHaveTemplates}
 use Rattle.hem_locks.specs.Edges.{EdgeHolds, CellsHold, EdgesHold, ObjectHolds, ObjectsHold, LocksHold, AllLocksHold}
 use Rattle.hem_rows.proofs.Choices.{if_some, if_mapped}
+use Rattle.hem_system.proofs.Own.{slice_get-map_each}
 use Rattle.hem_locks.proofs.Places.{within}
 use Rattle.hem_locks.proofs.Acted.{acted}
-use Rattle.hem_locks.proofs.Lines.{get_map_each, edges_kept}
+use Rattle.hem_locks.proofs.Lines.{edges_kept}
 use Rattle.hem_locks.proofs.Objects.{length-after, length-map_each, objects_kept}
 
 -- a firing keeps the invariant on its line
@@ -101,7 +102,7 @@ first-holds p c high low up_high down_high up_low down_low =
 
 -- the node of an object at the start
 node_of : (p : Protocol) (tree : Tree) (requests : ℕ → List Message) (k : ℕ) (cell : Cell) → slice_get (first_line p tree requests) k ≡ Some cell → (node : Node) × (slice_get tree k ≡ Some node) × (first_cell p tree requests k node ≡ cell)
-node_of p tree requests k cell at = if_mapped (first_cell p tree requests k) (slice_get tree k) cell (sym (rw zero-add at (get_map_each (first_cell p tree requests) 0 tree k)) ∙ at)
+node_of p tree requests k cell at = if_mapped (first_cell p tree requests k) (slice_get tree k) cell (sym (rw zero-add at (slice_get-map_each (first_cell p tree requests) 0 tree k)) ∙ at)
 
 first-edges : (p : Protocol) (tree : Tree) (requests : ℕ → List Message) → EdgesHold p tree (first_line p tree requests)
 first-edges p tree requests =

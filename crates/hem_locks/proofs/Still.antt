@@ -1,5 +1,5 @@
 -- Where nothing is under way on a line, no lock is held.
-use Rattle.std.proofs.Common.{true, ◌≡◌, refl, ap, ◌∙◌, ℕ, zero, suc, ◌+◌, ◌<◌, ◌≤◌, List, [], ◌∷◌, length, arith, Option, Some, None}
+use Rattle.std.proofs.Common.{true, ◌≡◌, refl, ap, ◌∙◌, ℕ, zero, suc, ◌+◌, ◌<◌, ◌≤◌, length, arith, Option, Some, None}
 use Rattle.std.specs.Prelude.{slice_get}
 use Rattle.std.proofs.lemmas.Option.{slice_get_within}
 use Rattle.hem_base.specs.Sets.{has_bit}
@@ -14,13 +14,8 @@ use Rattle.hem_rows.specs.Acts.{is_down_request, is_down_response}
 use Rattle.hem_locks.specs.Edges.{one_if, count, for_kid, for_parent, held, awaits, CellsHold, LocksHold}
 use Rattle.hem_locks.specs.Clean.{IsStill, LineIsStill, HoldsNone}
 use Rattle.hem_rows.proofs.Choices.{if_some}
+use Rattle.hem_tree.proofs.Lawful.{get_within}
 use Rattle.hem_locks.proofs.Clean.{not_held}
-
--- an element within a list
-pub there : {A : Type 0} (xs : List A) (i : ℕ) → i < length xs → (x : A) × (slice_get xs i ≡ Some x)
-there [] i inside = absurd (omega arith)
-there (x ∷ xs) zero inside = (x, refl)
-there (x ∷ xs) (suc i) inside = there xs i (omega arith)
 
 -- a child is in the tree
 pub child_within : (tree : Tree) (k o : ℕ) → parent_of tree k ≡ Some o → k < length tree
@@ -58,12 +53,12 @@ module _ (p : Protocol) (tree : Tree) (line : Line) (lawful : IsTree tree) (hold
       by_lock (Some lock) is below =
           let object = holds.objects.object o cell at in
           let one = object.awaits lock is in
-          let kid = there (children_of tree o) one.kid (omega (arith, one.there, object.children)) in
+          let kid = get_within (children_of tree o) one.kid (omega (arith, one.there, object.children)) in
           let place = at_child tree o one.kid kid.0 kid.1 in
           let parent = parent_is tree kid.0 o place.0 in
           let early = (lawful_early tree lawful).early kid.0 o parent in
           let inside = child_within tree kid.0 o parent in
-          let low = there line kid.0 (omega (arith, holds.size, inside)) in
+          let low = get_within line kid.0 (omega (arith, holds.size, inside)) in
           let edge = still_edge p (place_among tree o kid.0) cell low.0 (holds.edges.edge kid.0 o cell low.0 parent at low.1) (still.object kid.0 low.0 low.1) in
           let awaited : awaits (place_among tree o kid.0) cell.local.down ≡ 1 = awaited_at cell.local.down lock (place_among tree o kid.0) one.kid is place.1 one.awaited in
           let free : for_parent low.0.local.down ≡ 0 = not_for_parent low.0.local.down (below kid.0 low.0 (omega arith) low.1) in
@@ -79,7 +74,7 @@ module _ (p : Protocol) (tree : Tree) (line : Line) (lawful : IsTree tree) (hold
       by_parent (Some k) is above =
           let early = (lawful_early tree lawful).early o k is in
           let inside = slice_get_within line o cell at in
-          let high = there line k (omega arith) in
+          let high = get_within line k (omega arith) in
           let c = place_among tree k o in
           let edge = still_edge p c high.0 cell (holds.edges.edge o k high.0 cell is high.1 at) (still.object o cell at) in
           let up : for_kid c high.0.local.up ≡ 0 = ap (for_kid c) (above k high.0 (omega arith) high.1) in

@@ -21,8 +21,8 @@ use Rattle.hem_system.proofs.Takers.{parent_is}
 use Rattle.hem_rows.specs.Acts.{is_down_request, is_down_response}
 use Rattle.hem_locks.specs.Edges.{count, is_kid, for_kid, for_parent, awaits, held, responses_first, LocksHold}
 use Rattle.hem_shape.specs.Progress.{child, processor}
-use Rattle.hem_shape.proofs.Spots.{and_both}
 use Rattle.hem_numbered.specs.Numbers.{asker_of, uplock_at, downlock_at}
+use Rattle.hem_rows.proofs.Choices.{both}
 use Rattle.hem_numbered.proofs.LineSteps.{child_within}
 use Rattle.hem_numbered.proofs.ToRequester.{request_no_response}
 
@@ -68,8 +68,8 @@ edge_at p tree line lawful holds k o own =
 no_responses : (p : Protocol) (ms : List Message) → list_all (is_down_request p) ms ≡ true → count (is_down_response p) ms ≡ 0
 no_responses p [] all = refl
 no_responses p (m ∷ ms) all =
-    let both = and_both (is_down_request p m) (list_all (is_down_request p) ms) all in
-    ap (λ b. length (cond b (m ∷ filter (is_down_response p) ms) (filter (is_down_response p) ms))) (request_no_response p m.id both.0) ∙ no_responses p ms both.1
+    let parts = both (is_down_request p m) (list_all (is_down_request p) ms) all in
+    ap (λ b. length (cond b (m ∷ filter (is_down_response p) ms) (filter (is_down_response p) ms))) (request_no_response p m.id parts.0) ∙ no_responses p ms parts.1
 
 -- where responses come first and there is one, the first message is one
 pub response_first : (p : Protocol) (ms : List Message) → responses_first p ms ≡ true → 1 ≤ count (is_down_response p) ms → (m : Message) × (slice_get ms 0 ≡ Some m) × (is_down_response p m ≡ true)

@@ -28,15 +28,17 @@ use Rattle.hem_rows.specs.Acts.{IsThere, is_down_request, is_down_response}
 use Rattle.hem_locks.specs.Edges.{count, for_kid, for_parent, awaits}
 use Rattle.hem_shape.specs.Progress.{Asker, child, processor, parent, itself, IsBlank}
 use Rattle.hem_shape.specs.Move.{Taking, request, parent_answer, child_answers, CanTake}
-use Rattle.hem_shape.proofs.Subtrees.{child_parent}
 use Rattle.hem_shape.proofs.Spots.{true_false}
 use Rattle.hem_numbered.specs.Numbers.{Numbers, carries, is_any, asker_of, uplock_at, downlock_at, progress_of, AreNumbers}
 use Rattle.hem_numbered.specs.Bounds.{AreBounded}
 use Rattle.hem_numbered.specs.Firings.{HasNumber}
+use Rattle.hem_locks.proofs.Places.{within}
+use Rattle.hem_locks.proofs.Clean.{awaits-few}
+use Rattle.hem_system.proofs.Takers.{parent_is}
 use Rattle.hem_numbered.proofs.Carried.{carries_first, carries_none, carries_some, count_any}
 use Rattle.hem_numbered.proofs.TakesAs.{TakesAs, nothing_as, child_as, parent_as, answer_as, answers_as, no_child, no_named_child, no_parent, no_children, parent_here, child_here}
 use Rattle.hem_numbered.proofs.Held.{held_number, held_is, held_none, child_counts, parent_counts}
-use Rattle.hem_numbered.proofs.ToRequester.{within, response_no_request, request_no_response}
+use Rattle.hem_numbered.proofs.ToRequester.{response_no_request, request_no_response}
 
 -- what a firing takes can be taken, and leaves its lists so, as its transaction sees it
 pub record TakesFor (p : Protocol) (tree : Tree) (f : Firing) (outs : Outs) (line : Line) (numbers : Numbers) (is_new : ℕ → Bool) (n : ℕ) (asker : Asker) (takes : Taking) : Type 0 where
@@ -111,20 +113,12 @@ parent_above tree o kind rule id lawful is fits takes = ⊎_elim (λ less. lawfu
     no_root Mid fits same = cc
     no_root Leaf fits same = cc
 
-at_most_one : (c : ℕ) (lock : Option Lock) → awaits c lock ≤ 1
-at_most_one c None = omega arith
-at_most_one c (Some lock) = by_test (has_bit lock.awaited.0 c)
-  where
-    by_test : (b : Bool) → cond b 1 0 ≤ 1
-    by_test true = omega arith
-    by_test false = omega arith
-
 -- the request of the parent
 pub from_parent : (p : Protocol) (tree : Tree) (f : Firing) (outs : Outs) (line : Line) (numbers : Numbers) (is_new : ℕ → Bool) (n high : ℕ) (m : Message) → AreBounded p tree line → AreNumbers p tree line numbers is_new → HasNumber tree f outs numbers.lists is_new n → parent_of tree f.object.0 ≡ Some high → outs.taken_request ≡ false → outs.taken_parent ≡ true → outs.taken_kids ≡ nobody → head_at line f.object.0 Down ≡ Some m → is_down_request p m ≡ true → downlock_at line f.object.0 ≡ None → TakesFor p tree f outs line numbers is_new n parent request
 from_parent p tree f outs line numbers is_new n high m bounded known number high_is me above kids there is down =
     let own = number_is (parent_of tree f.object.0) high high_is in
     let most : count (is_down_request p) (list_at line f.object.0 Down) ≤ 1 =
-    (let two = bounded.two f.object.0 high own in let one = at_most_one (place_among tree high f.object.0) (downlock_at line high) in omega (arith, two, one)) in
+    (let two = bounded.two f.object.0 high own in let one = awaits-few (place_among tree high f.object.0) (downlock_at line high) in omega (arith, two, one)) in
     let first : carries (is_down_request p) n (list_at line f.object.0 Down) (numbers.lists f.object.0 Down) ≡ true =
     carries_first (is_down_request p) n (list_at line f.object.0 Down) (numbers.lists f.object.0 Down) m there (number.parent_message f.object.0 (parent_here tree f outs f.object.0 above refl)) is in
     record {
@@ -176,7 +170,7 @@ from_children p tree f outs line numbers is_new n one l bounded known is_taken n
     let head = there one is_taken in
     let first : carries is_any n (list_at line one UpResponses) (numbers.lists one UpResponses) ≡ true = carries_first is_any n (list_at line one UpResponses) (numbers.lists one UpResponses) head.0 head.1 numbered refl in
     let holds = (known.shapes n).above.answers_up one first in
-    let same_high : holds.high ≡ f.object.0 = (let a : Some holds.high ≡ Some f.object.0 = sym holds.above ∙ child_parent tree one f.object.0 (own one is_taken) in cc) in
+    let same_high : holds.high ≡ f.object.0 = (let a : Some holds.high ≡ Some f.object.0 = sym holds.above ∙ parent_is tree one f.object.0 (own one is_taken) in cc) in
     let same = held_number tree holds.high n (numbers.down holds.high) (downlock_at line holds.high) holds.lock.asker holds.lock.held in
     record {
       can = record {

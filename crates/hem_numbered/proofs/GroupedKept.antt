@@ -27,6 +27,7 @@ use Rattle.hem_numbered.specs.Numbers.{Numbers, lock_number, held_for, uplock_at
 use Rattle.hem_numbered.specs.Histories.{made_in, AreKnown}
 use Rattle.hem_numbered.specs.Quiet.{IsQuiet}
 use Rattle.hem_numbered.specs.Grouped.{is_broken, KeepsAdjacent, HoldsLock, IsEntry}
+use Rattle.hem_law.proofs.Rows.{ahead-former}
 use Rattle.hem_numbered.proofs.Broken.{EndsUp, broken_more, broken_now}
 use Rattle.hem_numbered.proofs.Held.{held_parts, held_number}
 use Rattle.hem_numbered.proofs.Histories.{IsStep, by_line, upward_is}
@@ -34,7 +35,7 @@ use Rattle.hem_numbered.proofs.Moves.{move_of}
 use Rattle.hem_numbered.proofs.Needs.{request_needs, answer_needs}
 use Rattle.hem_numbered.proofs.QuietKept.{quiet_kept}
 use Rattle.hem_numbered.proofs.QuietWaits.{Fired, quiet_own, lock_here}
-use Rattle.hem_numbered.proofs.RowFacts.{row_here, row_there, stands_more, ahead_more, ahead_stands}
+use Rattle.hem_numbered.proofs.RowFacts.{row_here, row_there, stands_more, ahead_more}
 
 -- rows so far: who stands in them, that behind a transaction that holds a lock of the object no other stands, and that each transaction stands together
 pub record IsGrouped (p : Protocol) (tree : Tree) (s : State) (all : ℕ → Numbers) (past : List Entry) : Type 0 where
@@ -167,7 +168,7 @@ grouped_kept p tree owner s mid all is_new past x it first known adjacent entry 
 
     own_end : (u : ℕ) → is_ahead (rows_of past x.event.firing.line.0 x.event.firing.object.0) x.number u ≡ true → u ≡ x.number
     own_end u ahead =
-        let some = group.there x.event.firing.line.0 it.line it.there x.event.firing.object.0 x.number (ahead_stands (rows_of past x.event.firing.line.0 x.event.firing.object.0) x.number u ahead) in
+        let some = group.there x.event.firing.line.0 it.line it.there x.event.firing.object.0 x.number (ahead-former (rows_of past x.event.firing.line.0 x.event.firing.object.0) x.number u ahead) in
         let holds = again_holds tree step.of.is.lawful x.event.firing.object.0 step.move.asker step.move.takes (progress_of p tree it.line (all x.event.firing.line.0) x.number) ((known.numbers x.event.firing.line.0 it.line it.there).shapes x.number) step.move.taking.can some in
         ⊎_elim (λ same. same) (λ broken. absurd (true_false broken adjacent)) (group.open_end x.event.firing.line.0 it.line it.there x.event.firing.object.0 x.number u holds ahead)
 

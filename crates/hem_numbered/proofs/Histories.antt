@@ -26,11 +26,12 @@ use Rattle.hem_shape.specs.Progress.{IsBlank, set_at}
 use Rattle.hem_shape.specs.Move.{progress_after}
 use Rattle.hem_shape.specs.Shape.{is_asking_up}
 use Rattle.hem_shape.specs.Phases.{Made, HasForm, HasPhases, made_by}
-use Rattle.hem_shape.proofs.Spots.{same_or_other, set_here, set_there, and_both, not_false}
+use Rattle.hem_shape.proofs.Spots.{same_or_other, set_here, set_there, not_false}
 use Rattle.hem_shape.proofs.Phases.{phases_go_on, form_of}
 use Rattle.hem_numbered.specs.Numbers.{Numbers, numbers_after, progress_of, AreNumbers}
 use Rattle.hem_numbered.specs.Firings.{HasNumber}
 use Rattle.hem_numbered.specs.Histories.{made_of, made_in, AreKnown}
+use Rattle.hem_rows.proofs.Choices.{both}
 use Rattle.hem_numbered.proofs.Others.{progress_other}
 use Rattle.hem_numbered.proofs.Moves.{IsMove, move_of, progress_moved}
 use Rattle.hem_numbered.proofs.Templates.{is_move}
@@ -151,7 +152,7 @@ known_step p tree owner s mid all is_new past f place n first lawful templates f
         locks = fires-keeps p tree s mid f lawful templates fires known.locks;
         numbers = by_line p tree s mid f it all now (λ l line numbers. AreNumbers p tree line numbers (λ y. is_new y && not (y == n)))
             (numbers_kept p tree f of.t of.kind of.rule of.before it.effect.after it.effect.outs it.line new (all l) is_new n of.is before loose)
-            (λ l line differs at. fewer_new p tree line (all l) is_new (λ y. is_new y && not (y == n)) (λ y is. (and_both (is_new y) (not (y == n)) is).0) (known.numbers l line at));
+            (λ l line differs at. fewer_new p tree line (all l) is_new (λ y. is_new y && not (y == n)) (λ y is. (both (is_new y) (not (y == n)) is).0) (known.numbers l line at));
         owned = λ l' y line at. by_line p tree s mid f it all now (λ l line numbers. (IsBlank (progress_of p tree line numbers y) → ⊥) → owner y ≡ l)
             (λ begun. ⊎_elim (λ same. ap owner same ∙ owned) (λ differs. known.owned l y it.line it.there (λ blank. begun (subst (λ at. IsBlank at) (sym (other y differs)) blank))) (same_or_other y n))
             (λ l line differs at begun. known.owned l y line at begun) l' line at;

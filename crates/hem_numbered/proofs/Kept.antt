@@ -18,16 +18,16 @@ use Rattle.hem_fire.specs.declared.outs.Outs.{Outs}
 use Rattle.hem_system.specs.declared.lane.Lane.{Lane}
 use Rattle.hem_system.specs.declared.lane.Lane.TheVariants.{UpRequests, UpResponses, Down, Requests, Answers}
 use Rattle.hem_system.specs.State.{Line, list_at, head_at, takes, reaches, heads_of}
-use Rattle.hem_system.proofs.Takers.{and_left}
+use Rattle.hem_system.proofs.Takers.{and_left, parent_is}
 use Rattle.hem_rows.specs.Acts.{takes_kids, AreHeads, IsThere}
 use Rattle.hem_shape.specs.Progress.{Asker, IsBlank}
 use Rattle.hem_shape.specs.Move.{Taking, request, parent_answer, child_answers, Giving, answer, ask_up, ask_down, CanTake}
 use Rattle.hem_shape.specs.Shape.{HasShape}
-use Rattle.hem_shape.proofs.Subtrees.{child_parent}
-use Rattle.hem_shape.proofs.Spots.{same_or_other, true_false, and_both, not_true}
+use Rattle.hem_shape.proofs.Spots.{same_or_other, true_false}
 use Rattle.hem_shape.proofs.KeepsShape.{shape_kept}
 use Rattle.hem_numbered.specs.Numbers.{Numbers, numbers_after, carries, is_any, progress_of, uplock_at, downlock_at, AreNumbers}
 use Rattle.hem_numbered.specs.Firings.{HasNumber, IsFiring, ChangesOnce, IsNumbered}
+use Rattle.hem_rows.proofs.Choices.{both, not-true}
 use Rattle.hem_numbered.proofs.Carried.{carries_first, length_after}
 use Rattle.hem_numbered.proofs.Held.{held_number}
 use Rattle.hem_numbered.proofs.TakesAs.{no_children}
@@ -45,7 +45,7 @@ answer_there p tree f before outs line ParentRequest kids there k is = absurd (t
 answer_there p tree f before outs line ParentResponse kids there k is = absurd (true_false is (no_children tree f outs k kids))
 
 -- a message has a number
-numbered_head : (ms : List Message) (ns : List ℕ) (m : Message) → length ns ≡ length ms → slice_get ms 0 ≡ Some m → (n : ℕ) × (slice_get ns 0 ≡ Some n)
+pub numbered_head : (ms : List Message) (ns : List ℕ) (m : Message) → length ns ≡ length ms → slice_get ms 0 ≡ Some m → (n : ℕ) × (slice_get ns 0 ≡ Some n)
 numbered_head [] ns m same at = absurd (let bad : None ≡ Some m = at in cc)
 numbered_head (q ∷ ms) [] m same at = absurd (omega (arith, same))
 numbered_head (q ∷ ms) (n ∷ ns) m same at = (n, refl)
@@ -56,7 +56,7 @@ answer_number p tree f outs line numbers is_new k a known is there numbered =
     let first : carries is_any a (list_at line k UpResponses) (numbers.lists k UpResponses) ≡ true = carries_first is_any a (list_at line k UpResponses) (numbers.lists k UpResponses) there.0 there.1 numbered refl in
     let holds = (known.shapes a).above.answers_up k first in
     let own = and_left (is_child tree k f.object.0) (has_bit outs.taken_kids.0 (place_among tree f.object.0 k)) is in
-    let same : holds.high ≡ f.object.0 = (let high : Some holds.high ≡ Some f.object.0 = sym holds.above ∙ child_parent tree k f.object.0 own in cc) in
+    let same : holds.high ≡ f.object.0 = (let high : Some holds.high ≡ Some f.object.0 = sym holds.above ∙ parent_is tree k f.object.0 own in cc) in
     ap numbers.down (sym same) ∙ held_number tree holds.high a (numbers.down holds.high) (downlock_at line holds.high) holds.lock.asker holds.lock.held
 
 -- all messages that a firing takes have its number
@@ -134,8 +134,9 @@ is_numbered p tree f t kind rule before after outs old new numbers is_new n c kn
       frees_down = λ lock some none. down_freed p tree old numbers n f.object.0 is.asker is.takes is.gives before.down after.down lock is.taking.can is.down some none;
     }
 
-not_same : (x n : ℕ) → (x == n) ≡ false → x ≡ n → ⊥
-not_same x n is same = grind arith
+-- a test that tells numbers apart
+pub differs : (x n : ℕ) → (x == n) ≡ false → x ≡ n → ⊥
+differs x n is same = grind arith
 
 -- the numbers after a firing are those of the line after it
 pub numbers_kept : (p : Protocol) (tree : Tree) (f : Firing) (t : TemplateName) (kind : Kind) (rule : Rule) (before after : Local) (outs : Outs) (old new : Line) (numbers : Numbers) (is_new : ℕ → Bool) (n : ℕ) → IsFiring p tree f t kind rule before after outs old new → AreNumbers p tree old numbers is_new → HasNumber tree f outs numbers.lists is_new n → AreNumbers p tree new (numbers_after tree f outs before n t numbers) (λ x. is_new x && not (x == n))
@@ -153,5 +154,5 @@ numbers_kept p tree f t kind rule before after outs old new numbers is_new n c k
           (shape_kept tree (move_of is) t (progress_of p tree old numbers n) c.lawful (known.shapes n) (record { named = is.named; takes = is.taking.can; gives = is.can_give }))))
           (λ differs. subst (λ at. HasShape tree at) (sym (other x differs)) (known.shapes x))
           (same_or_other x n);
-      fresh = λ x both. let parts = and_both (is_new x) (not (x == n)) both in subst (λ at. IsBlank at) (sym (other x (λ same. not_same x n (not_true (x == n) parts.1) same))) (known.fresh x parts.0);
+      fresh = λ x are. let parts = both (is_new x) (not (x == n)) are in subst (λ at. IsBlank at) (sym (other x (λ same. differs x n (not-true (x == n) parts.1) same))) (known.fresh x parts.0);
     }

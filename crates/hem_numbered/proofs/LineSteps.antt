@@ -7,33 +7,29 @@ use Rattle.hem_base.specs.declared.ids.Firing.{Firing}
 use Rattle.hem_base.specs.declared.ids.Kind.{Kind}
 use Rattle.hem_syntax.specs.declared.rule.Rule.{Rule}
 use Rattle.hem_template.specs.declared.template_name.TemplateName.{TemplateName}
-use Rattle.hem_object.specs.declared.state.Lock.{Lock}
 use Rattle.hem_syntax.specs.Protocol.{Protocol, rule_named}
 use Rattle.hem_object.specs.Local.{Local}
 use Rattle.hem_template.specs.Template.{template_of}
-use Rattle.hem_fire.specs.OneFire.{Heads, OneFire, can_fire, local_after, outs_of}
 use Rattle.hem_tree.specs.Tree.{Tree, Node, parent_of, is_child, place_among, IsTree}
 use Rattle.hem_tree.proofs.Early.{lawful_early}
 use Rattle.hem_tree.proofs.Lawful.{get_within}
 use Rattle.hem_system.specs.declared.lane.Lane.{Lane}
 use Rattle.hem_system.specs.declared.lane.Lane.TheVariants.{UpRequests, UpResponses, Down}
-use Rattle.hem_system.specs.State.{Cell, Line, Effect, local_at, list_at, list_of, heads_of, taken_heads, rule_effect, own_effect, effect_of, line_after, place_of_me}
+use Rattle.hem_system.specs.State.{Cell, Line, Effect, local_at, list_at, list_of, heads_of, own_effect, effect_of, line_after, place_of_me}
 use Rattle.hem_system.proofs.Takers.{parent_is}
-use Rattle.hem_rows.proofs.Choices.{if_some, chosen}
+use Rattle.hem_rows.proofs.Choices.{if_some}
 use Rattle.hem_law.proofs.LineParts.{list_at-after, local_at-after}
 use Rattle.hem_law.proofs.OwnEffect.{own_effect-parts}
 use Rattle.hem_rows.specs.Acts.{is_down_request, is_down_response}
 use Rattle.hem_rows.specs.Rows.{AllHaveTemplates}
-use Rattle.hem_locks.specs.Edges.{count, for_kid, for_parent, awaits, held, LocksHold}
+use Rattle.hem_locks.specs.Edges.{count, for_kid, for_parent, awaits, LocksHold}
 use Rattle.hem_rows.proofs.Acts.{acts_by_template}
 use Rattle.hem_rows.proofs.Rows.{of_row}
 use Rattle.hem_numbered.specs.Numbers.{uplock_at, downlock_at}
 use Rattle.hem_numbered.specs.Bounds.{AreBounded}
 use Rattle.hem_numbered.specs.Firings.{IsFiring}
-
-held_once : (lock : Option Lock) → held lock ≤ 1
-held_once None = omega arith
-held_once (Some lock) = omega arith
+use Rattle.hem_locks.proofs.LockNumbers.{held-few}
+use Rattle.hem_locks.proofs.Acted.{fired}
 
 -- an object with a parent is in the tree
 pub child_within : (tree : Tree) (k o : ℕ) → is_child tree k o ≡ true → k < length tree
@@ -52,7 +48,7 @@ bounded p tree line lawful holds =
           let lower = it.0 in
           let upper = it.2 in
           let edge = (holds.edges.edge k o upper lower (parent_is tree k o own) it.3 it.1).uplock in
-          let most = held_once lower.local.up in
+          let most = held-few lower.local.up in
           subst (λ n. n + count (is_down_response p) (list_at line k Down) + for_kid (place_among tree o k) (uplock_at line o) + for_kid (place_among tree o k) (downlock_at line o) ≤ 1) (sym (ap length (list_is k lower UpRequests it.1)))
           (subst (λ ms. length lower.up_requests + count (is_down_response p) ms + for_kid (place_among tree o k) (uplock_at line o) + for_kid (place_among tree o k) (downlock_at line o) ≤ 1) (sym (list_is k lower Down it.1))
           (subst (λ l. length lower.up_requests + count (is_down_response p) lower.down + for_kid (place_among tree o k) l + for_kid (place_among tree o k) (downlock_at line o) ≤ 1) (sym (up_is o upper it.3))
@@ -98,19 +94,13 @@ pub record FiringOf (p : Protocol) (tree : Tree) (line : Line) (f : Firing) (e :
   pub template : template_of p kind rule ≡ Ok t
   pub is : IsFiring p tree f t kind rule before e.after e.outs line (line_after tree f e line)
 
-one_fire : (p : Protocol) (kind : Kind) (rule : Rule) (me : Option ℕ) (local : Local) (heads : Heads) (e : Effect) → rule_effect p kind rule me local heads ≡ Some e → OneFire p kind rule me local heads e.after e.outs
-one_fire p kind rule me local heads e is =
-    let outs = outs_of p kind rule me local heads in
-    let it = chosen (can_fire p kind rule me local heads) (let made : Effect = record { after = local_after p kind rule me local heads; took = taken_heads outs heads; outs = outs } in made) e is in
-    record { possible = it.0; leaves = sym (ap (λ (e : Effect). e.after) it.1); gives = sym (ap (λ (e : Effect). e.outs) it.1) }
-
 pub firing_of : (p : Protocol) (tree : Tree) (line : Line) (f : Firing) (e : Effect) → IsTree tree → AllHaveTemplates p → LocksHold p tree line → effect_of p tree line f ≡ Some e → FiringOf p tree line f e
 firing_of p tree line f e lawful templates holds possible =
     let by_local = if_some (λ local. own_effect p tree f local (heads_of tree line f.object.0 f.me)) (local_at line f.object.0) e possible in
     let local = by_local.0 in
     let heads = heads_of tree line f.object.0 f.me in
     let parts = own_effect-parts p tree f local heads e by_local.2 in
-    let fires = one_fire p parts.kind parts.rule (place_of_me tree f.object.0 f.me) local heads e parts.effect in
+    let fires = fired p parts.kind parts.rule (place_of_me tree f.object.0 f.me) local heads e parts.effect in
     let template = templates.each parts.kind f.rule parts.rule parts.named in
     record {
       t = template.0;

@@ -18,6 +18,7 @@ use Rattle.hem_shape.specs.Move.{Taking, request, parent_answer, child_answers, 
 use Rattle.hem_shape.proofs.Spots.{same_or_other, set_here, set_there}
 use Rattle.hem_numbered.specs.Numbers.{Numbers, numbers_after, carries, is_any, held_for, asker_of, uplock_at, downlock_at, progress_of}
 use Rattle.hem_numbered.specs.Firings.{Leads}
+use Rattle.hem_locks.proofs.Places.{and_true}
 use Rattle.hem_numbered.proofs.Alike.{same_progress}
 use Rattle.hem_numbered.proofs.Carried.{carries_after}
 use Rattle.hem_numbered.proofs.TakesAs.{left}
@@ -161,19 +162,15 @@ list_moved test tree f outs old new numbers n k lane sent leads same is =
     own true false e is = refl
     own true true e is = is
 
-and_any : (r : Bool) → (r && true) ≡ r
-and_any true = refl
-and_any false = refl
-
 pub progress_moved : (p : Protocol) (tree : Tree) (f : Firing) (t : TemplateName) (before after : Local) (outs : Outs) (old new : Line) (numbers : Numbers) (is_new : ℕ → Bool) (n : ℕ) → Leads tree f outs before after old new → ((k : ℕ) (lane : Lane) → lane ≢ Requests → length (numbers.lists k lane) ≡ length (list_at old k lane)) → (is : IsMove p tree f t before after outs old numbers is_new n) → progress_of p tree new (numbers_after tree f outs before n t numbers) n ≡ progress_after tree (move_of is) t (progress_of p tree old numbers n)
 progress_moved p tree f t before after outs old new numbers is_new n leads same is =
     let o = f.object.0 in
     let at = progress_of p tree old numbers n in
     let mid = recorded o t (taken tree o is.asker is.takes at) in
     same_progress (progress_of p tree new (numbers_after tree f outs before n t numbers) n) (progress_after tree (move_of is) t at)
-    (λ k. list_moved is_any tree f outs old new numbers n k UpRequests (reaches tree f outs.to k UpRequests) (leads.lists k UpRequests) (same k UpRequests (λ bad. cc)) (and_any (reaches tree f outs.to k UpRequests))
+    (λ k. list_moved is_any tree f outs old new numbers n k UpRequests (reaches tree f outs.to k UpRequests) (leads.lists k UpRequests) (same k UpRequests (λ bad. cc)) (and_true (reaches tree f outs.to k UpRequests))
     ∙ ap (λ b. b || reaches tree f outs.to k UpRequests) (is.taking.lists.asks_up k) ∙ is.giving.asks_up mid k)
-    (λ k. list_moved is_any tree f outs old new numbers n k UpResponses (reaches tree f outs.to k UpResponses) (leads.lists k UpResponses) (same k UpResponses (λ bad. cc)) (and_any (reaches tree f outs.to k UpResponses))
+    (λ k. list_moved is_any tree f outs old new numbers n k UpResponses (reaches tree f outs.to k UpResponses) (leads.lists k UpResponses) (same k UpResponses (λ bad. cc)) (and_true (reaches tree f outs.to k UpResponses))
     ∙ ap (λ b. b || reaches tree f outs.to k UpResponses) (is.taking.lists.answers_up k) ∙ is.giving.answers_up mid k)
     (λ k. list_moved (is_down_request p) tree f outs old new numbers n k Down (reaches tree f outs.to k Down && is_down_request p outs.message) (leads.lists k Down) (same k Down (λ bad. cc)) refl
     ∙ ap (λ b. b || (reaches tree f outs.to k Down && is_down_request p outs.message)) (is.taking.lists.asks_down k) ∙ is.giving.asks_down mid k)

@@ -9,10 +9,12 @@ use Rattle.hem_law.specs.Lists.{IsPairwise}
 use Rattle.hem_law.specs.Normal.{InOrder}
 use Rattle.hem_law.proofs.ListFacts.{each-map, each-filter, each-passes, each-both}
 use Rattle.hem_law.proofs.NormalSame.{normal-each}
-use Rattle.hem_shape.proofs.Spots.{and_both, not_true, not_false, true_false, or_cases}
+use Rattle.hem_shape.proofs.Spots.{not_false, true_false, or_cases}
 use Rattle.hem_numbered.specs.Histories.{EndsWhereUp}
 use Rattle.hem_numbered.specs.Grouped.{next_other, is_broken, StandAdjacent}
 use Rattle.hem_numbered.specs.Adjacent.{NextOwn, AreAdjacent}
+use Rattle.hem_rows.proofs.Choices.{both, not-true}
+use Rattle.hem_numbered.proofs.Walks.{append_one}
 
 -- behind an unmoved request upward none of its transaction comes
 abbrev LastOwn : List Entry → Entry → Entry → Type 0
@@ -95,21 +97,17 @@ not_broken [] x xs adjacent = refl
 not_broken (y ∷ past) x xs adjacent =
     not_false (is_broken (y ∷ past) x.number) (λ broken. ⊎_elim
     (λ now.
-    let one = and_both (y.number == x.number && y.upward) (next_other past x.number) now in
-    let two = and_both (y.number == x.number) y.upward one.0 in
+    let one = both (y.number == x.number && y.upward) (next_other past x.number) now in
+    let two = both (y.number == x.number) y.upward one.0 in
     next past (eqb-true y.number x.number two.0) one.1 (adjacent.0 two.1))
     (λ later. true_false later (not_broken past x xs adjacent.1))
     (or_cases (y.number == x.number && y.upward && next_other past x.number) (is_broken past x.number) broken))
   where
     next : (past : List Entry) → y.number ≡ x.number → next_other past x.number ≡ true → NextOwn y (past ++ x ∷ xs) → ⊥
     next [] same other own = let bad : false ≡ true = other in cc
-    next (z ∷ past) same other (inl own) = let is : (z.number == x.number) ≡ true = grind arith in true_false is (not_true (z.number == x.number) other)
+    next (z ∷ past) same other (inl own) = let is : (z.number == x.number) ≡ true = grind arith in true_false is (not-true (z.number == x.number) other)
     next (z ∷ past) same other (inr none) = each_end (λ z. z.number ≢ y.number) (z ∷ past) x xs none (sym same)
-
-one_more : (past : List Entry) (x : Entry) (xs : List Entry) → (past ++ x ∷ []) ++ xs ≡ past ++ x ∷ xs
-one_more [] x xs = refl
-one_more (y ∷ past) x xs = ap (λ l. y ∷ l) (one_more past x xs)
 
 pub stand_adjacent : (past xs : List Entry) → AreAdjacent (past ++ xs) → StandAdjacent past xs
 stand_adjacent past [] adjacent = tt
-stand_adjacent past (x ∷ xs) adjacent = (not_broken past x xs adjacent, stand_adjacent (past ++ x ∷ []) xs (subst (λ l. AreAdjacent l) (sym (one_more past x xs)) adjacent))
+stand_adjacent past (x ∷ xs) adjacent = (not_broken past x xs adjacent, stand_adjacent (past ++ x ∷ []) xs (subst (λ l. AreAdjacent l) (sym (append_one past x xs)) adjacent))

@@ -1,5 +1,5 @@
 -- The number of an event, by the numbers that the messages carry.
-use Rattle.std.proofs.Common.{◌≡◌, ◌≢◌, ℕ, zero, suc, Bool, true, false, cond, ◌&&◌, List, [], ◌∷◌, ◌++◌, length, map, refl, sym, ap, ◌∙◌, arith, Option, Some, None}
+use Rattle.std.proofs.Common.{◌≡◌, ◌≢◌, ℕ, zero, suc, Bool, true, false, cond, ◌&&◌, List, [], ◌∷◌, ◌++◌, length, map, refl, sym, ap, ◌∙◌, Option, Some, None}
 use Rattle.std.specs.Prelude.{◌==◌, slice_get, filter, option_to_list, unwrap_or}
 use Rattle.std.specs.Option.{option_map_or}
 use Rattle.std.proofs.lemmas.Bool.{eqb-true}
@@ -23,6 +23,7 @@ use Rattle.hem_trace.specs.Tags.{Tags, number_at}
 use Rattle.hem_rows.specs.Acts.{takes_me, takes_parent, takes_kids, AreHeads}
 use Rattle.hem_shape.proofs.Spots.{true_false}
 use Rattle.hem_numbered.specs.Firings.{HasNumber}
+use Rattle.hem_numbered.proofs.Kept.{numbered_head}
 use Rattle.hem_numbered.proofs.Awaited.{each_there}
 use Rattle.hem_numbered.proofs.TakesAs.{no_bits, no_child, no_named_child, no_parent, no_children, parent_here, child_here}
 
@@ -35,12 +36,6 @@ number_none tree tags place e none = rw (none, number_at) refl
 
 number_some : (tree : Tree) (tags : Tags) (place : ℕ) (e : Event) (c : Channel) (n : ℕ) → slice_get (channels_taken tree e) 0 ≡ Some c → slice_get (tags c) 0 ≡ Some n → number_at tree tags place e ≡ n
 number_some tree tags place e c n some there = rw (some, number_at) (ap (λ n. unwrap_or n place) there)
-
--- a message has a number
-pub numbered : (ms : List Message) (ns : List ℕ) (m : Message) → length ns ≡ length ms → slice_get ms 0 ≡ Some m → (n : ℕ) × (slice_get ns 0 ≡ Some n)
-numbered [] ns m same at = absurd (let bad : None ≡ Some m = at in cc)
-numbered (q ∷ ms) [] m same at = absurd (omega (arith, same))
-numbered (q ∷ ms) (n ∷ ns) m same at = (n, refl)
 
 filter_none : (p : ℕ → Bool) (xs : List ℕ) → ((k : ℕ) → p k ≡ false) → filter p xs ≡ []
 filter_none p [] none = refl
@@ -80,7 +75,7 @@ start_number tree tags place e is_new me above kids first none =
 parent_number : (p : Protocol) (tree : Tree) (e : Event) (line : Line) (tags : Tags) (place : ℕ) (is_new : ℕ → Bool) (m : Message) → e.outs.taken_request ≡ false → e.outs.taken_parent ≡ true → e.outs.taken_kids ≡ nobody → head_at line e.firing.object.0 Down ≡ Some m → ((k : ℕ) (lane : Lane) → lane ≢ Requests → length (line_tags tags e.firing.line.0 k lane) ≡ length (list_at line k lane)) → HasNumber tree e.firing e.outs (line_tags tags e.firing.line.0) is_new (number_at tree tags place e)
 parent_number p tree e line tags place is_new m me above kids there even =
     let o = e.firing.object.0 in
-    let at = numbered (list_at line o Down) (line_tags tags e.firing.line.0 o Down) m (even o Down (λ bad. cc)) there in
+    let at = numbered_head (list_at line o Down) (line_tags tags e.firing.line.0 o Down) m (even o Down (λ bad. cc)) there in
     let number : number_at tree tags place e ≡ at.0 =
     number_some tree tags place e (record { line = e.firing.line.0; object = o; lane = Down }) at.0 (ap (λ cs. slice_get cs 0) (channels_are tree e false true nobody e.firing.me me above kids refl)) at.1 in
     record {
@@ -109,7 +104,7 @@ has_number p tree e line before tags place FromRequester is_new me above kids th
     by_me (Some c) is =
         let child_own : is_child tree c.0 e.firing.object.0 ≡ true = ap (is_own_child tree e.firing.object.0) (sym is) ∙ own in
         let head : head_at line c.0 UpRequests ≡ Some there.0 = ap (request_head line e.firing.object.0) (sym is) ∙ there.1 in
-        let at = numbered (list_at line c.0 UpRequests) (line_tags tags e.firing.line.0 c.0 UpRequests) there.0 (even c.0 UpRequests (λ bad. cc)) head in
+        let at = numbered_head (list_at line c.0 UpRequests) (line_tags tags e.firing.line.0 c.0 UpRequests) there.0 (even c.0 UpRequests (λ bad. cc)) head in
         let number : number_at tree tags place e ≡ at.0 =
         number_some tree tags place e (record { line = e.firing.line.0; object = c.0; lane = UpRequests }) at.0 (ap (λ cs. slice_get cs 0) (channels_are tree e true false nobody (Some c) me above kids is)) at.1 in
         record {
@@ -129,7 +124,7 @@ has_number p tree e line before tags place FromKids is_new me above kids there o
     let head = first_passes (λ k. has_bit e.outs.taken_kids.0 (place_among tree e.firing.object.0 k)) (children_of tree e.firing.object.0) (place_among tree e.firing.object.0 one.0) one.0 (child_at tree e.firing.object.0 one.0 own_one) bit_one in
     let taken_first : takes tree e.firing e.outs head.1 UpResponses ≡ true = ap (λ b. b && has_bit e.outs.taken_kids.0 (place_among tree e.firing.object.0 head.1)) (at_child tree e.firing.object.0 head.0 head.1 head.2).0 ∙ head.3 in
     let message = each_there tree e.firing before e.outs line kids there head.1 taken_first in
-    let at = numbered (list_at line head.1 UpResponses) (line_tags tags e.firing.line.0 head.1 UpResponses) message.0 (even head.1 UpResponses (λ bad. cc)) message.1 in
+    let at = numbered_head (list_at line head.1 UpResponses) (line_tags tags e.firing.line.0 head.1 UpResponses) message.0 (even head.1 UpResponses (λ bad. cc)) message.1 in
     let number : number_at tree tags place e ≡ at.0 =
     number_some tree tags place e (record { line = e.firing.line.0; object = head.1; lane = UpResponses }) at.0
     (ap (λ cs. slice_get cs 0) (channels_are tree e false false e.outs.taken_kids e.firing.me me above refl refl)

@@ -20,18 +20,19 @@ use Rattle.hem_shape.specs.Subtree.{InSubtree, steps_up}
 use Rattle.hem_shape.specs.Progress.{Asker, child, processor, parent, itself, Progress}
 use Rattle.hem_shape.specs.Move.{Taking, request, parent_answer, child_answers, Giving, answer, ask_up, ask_down, taken, recorded, given, progress_after, CanTake, template_name}
 use Rattle.hem_shape.specs.Phases.{Made, HasPhases}
-use Rattle.hem_shape.proofs.Subtrees.{child_parent, below_step, not_in_child, child_in_child}
+use Rattle.hem_shape.proofs.Subtrees.{below_step, not_in_child, child_in_child}
 use Rattle.hem_shape.proofs.Spots.{same_or_other, set_cases, true_false}
 use Rattle.hem_shape.proofs.Ready.{down_not_up, some_none, up_fired}
 use Rattle.hem_shape.proofs.Phases.{asks_after}
 use Rattle.hem_numbered.specs.Numbers.{Numbers, carries, held_for, uplock_at, downlock_at, progress_of, AreNumbers}
 use Rattle.hem_numbered.specs.Quiet.{HasTurned, QuietAt, IsQuiet}
+use Rattle.hem_system.proofs.Takers.{parent_is}
+use Rattle.hem_numbered.proofs.Kept.{numbered_head}
 use Rattle.hem_numbered.proofs.Carried.{carries_first}
 use Rattle.hem_numbered.proofs.EdgeFacts.{EdgeAt, edge_at, response_first, counted_child}
 use Rattle.hem_numbered.proofs.Held.{held_parts, held_number, held_is}
 use Rattle.hem_numbered.proofs.Moves.{move_of, answer_up, request_up}
 use Rattle.hem_numbered.proofs.Needs.{request_needs}
-use Rattle.hem_numbered.proofs.Numbering.{numbered}
 use Rattle.hem_numbered.proofs.QuietWaits.{Fired, quiet_own, asked_target, asks_free, stays_quiet, ask_number, high_number}
 
 -- an uplock that is held after a firing that takes none was held before, and the firing didn't free it
@@ -123,7 +124,7 @@ clean_way p tree line numbers is_new x c o lawful locks known above asks free (s
     ⊎_elim
     (λ some. absurd (
     let first = response_first p (list_at line k Down) edge.order some in
-    let y = numbered (list_at line k Down) (numbers.lists k Down) first.0 (known.lists k Down (λ bad. cc)) first.1 in
+    let y = numbered_head (list_at line k Down) (numbers.lists k Down) first.0 (known.lists k Down (λ bad. cc)) first.1 in
     let there = carries_first (is_down_response p) y.0 (list_at line k Down) (numbers.lists k Down) first.0 first.1 y.1 first.2 in
     let holds = (known.shapes y.0).below.answers_down k there in
     let same : y.0 ≡ x = sym (held_number tree k y.0 (numbers.up k) (uplock_at line k) holds.asker holds.held) ∙ held_number tree k x (numbers.up k) (uplock_at line k) a waits in
@@ -156,7 +157,7 @@ quiet_at_anchor p tree f t kind rule before after outs old new numbers is_new fi
         let o = f.object.0 in
         let early = lawful_early tree it.firing.lawful in
         let way = (it.known.shapes n).rising c can.there in
-        let above = child_parent tree c o can.own in
+        let above = parent_is tree c o can.own in
         let within = way.within k (up_fired a ((progress_of p tree old numbers n).fired k) ((it.known.shapes n).waits k a waits).asked) in
         let needs = request_needs p tree f t kind rule before after outs old new it.move.asker it.move.gives it.firing (ap (λ takes. template_name takes it.move.asker it.move.gives) (sym is_takes) ∙ it.move.named) in
         let free : downlock_at old o ≡ None = ap (λ l. option_and_then (λ (l : Local). l.down) l) it.firing.leads.here ∙ needs.down in
@@ -166,7 +167,7 @@ quiet_at_anchor p tree f t kind rule before after outs old new numbers is_new fi
         (record { down = clean.down; behind = λ some. absurd (let none = clean.no_request in omega (arith, some, none)) })
         (λ reach is. absurd (
         let target = asked_target p tree f outs it.move.asker it.move.gives k it.move.giving it.move.can_give reach is in
-        let same : k ≡ c = child_in_child tree early k c o (child_parent tree k o target.0) above within in
+        let same : k ≡ c = child_in_child tree early k c o (parent_is tree k o target.0) above within in
         target.1 (is_asker ∙ ap child (sym same))))
     by_takes request parent is_takes is_asker can = absurd (true_false can.there (((it.known.shapes n).rising low asks).no_asks_down f.object.0))
     by_takes request processor is_takes is_asker can = absurd (true_false asks (can.asks_up low))

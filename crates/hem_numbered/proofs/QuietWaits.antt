@@ -21,13 +21,14 @@ use Rattle.hem_shape.specs.Move.{Taking, request, parent_answer, child_answers, 
 use Rattle.hem_numbered.specs.Numbers.{Numbers, carries, is_any, held_for, uplock_at, downlock_at, progress_of, AreNumbers}
 use Rattle.hem_numbered.specs.Firings.{Leads, IsFiring}
 use Rattle.hem_numbered.specs.Quiet.{QuietAt}
+use Rattle.hem_locks.proofs.Counts.{count-append}
+use Rattle.hem_numbered.proofs.Kept.{numbered_head}
 use Rattle.hem_numbered.proofs.Carried.{carries_first}
 use Rattle.hem_numbered.proofs.EdgeFacts.{edge_at, no_request_first, counted_child}
 use Rattle.hem_numbered.proofs.GivesAs.{GivesAs}
 use Rattle.hem_numbered.proofs.Held.{held_parts, held_number, held_is}
 use Rattle.hem_numbered.proofs.Moves.{DownAs, IsMove}
 use Rattle.hem_numbered.proofs.Needs.{request_needs}
-use Rattle.hem_numbered.proofs.Numbering.{numbered}
 use Rattle.hem_numbered.proofs.TakesAs.{parent_elsewhere}
 
 -- what is known of a firing, for what follows
@@ -102,21 +103,13 @@ asks_free p tree f outs asker takes gives k before after as_given down reach is 
     by_gives asker ask_up down bad = absurd (let no_way : false ≡ true = bad in cc)
     by_gives asker (ask_down targets) down is = down.0
 
-count_more : (test : Message → Bool) (xs ys : List Message) → count test (xs ++ ys) ≡ count test xs + count test ys
-count_more test [] ys = sym (let same : 0 + count test ys ≡ count test ys = omega arith in same)
-count_more test (x ∷ xs) ys = one (test x) (count_more test xs ys)
-  where
-    one : (b : Bool) → count test (xs ++ ys) ≡ count test xs + count test ys → length (cond b (x ∷ filter test (xs ++ ys)) (filter test (xs ++ ys))) ≡ length (cond b (x ∷ filter test xs) (filter test xs)) + count test ys
-    one true same = omega (arith, same)
-    one false same = same
-
 -- another object stays quiet, where no request comes to it alone
 pub stays_quiet : (p : Protocol) (tree : Tree) (f : Firing) (outs : Outs) (before after : Local) (old new : Line) (k : ℕ) → Leads tree f outs before after old new → k ≢ f.object.0 → QuietAt p old k → (reaches tree f outs.to k Down ≡ true → is_down_request p outs.message ≡ true → 1 ≤ count (is_down_response p) (list_at old k Down)) → QuietAt p new k
 stays_quiet p tree f outs before after old new k leads other quiet alone =
     let list : list_at new k Down ≡ list_at old k Down ++ sends tree f outs k Down =
     leads.lists k Down ∙ ap (λ b. drop (cond b 1 0) (list_at old k Down) ++ sends tree f outs k Down) (parent_elsewhere tree f outs k other) in
-    let requests = ap (count (is_down_request p)) list ∙ count_more (is_down_request p) (list_at old k Down) (sends tree f outs k Down) in
-    let responses = ap (count (is_down_response p)) list ∙ count_more (is_down_response p) (list_at old k Down) (sends tree f outs k Down) in
+    let requests = ap (count (is_down_request p)) list ∙ count-append (is_down_request p) (list_at old k Down) (sends tree f outs k Down) in
+    let responses = ap (count (is_down_response p)) list ∙ count-append (is_down_response p) (list_at old k Down) (sends tree f outs k Down) in
     record {
       down = ap (λ l. option_and_then (λ (l : Local). l.down) l) (leads.others k other) ∙ quiet.down;
       behind = λ some. by_old (count (is_down_request p) (list_at old k Down)) refl requests responses some;
@@ -138,7 +131,7 @@ stays_quiet p tree f outs before after old new k leads other quiet alone =
 pub ask_number : (p : Protocol) (tree : Tree) (line : Line) (numbers : Numbers) (is_new : ℕ → Bool) (k x : ℕ) (a : Asker) → AreNumbers p tree line numbers is_new → (progress_of p tree line numbers x).up k ≡ Some a → 1 ≤ length (list_at line k UpRequests) → (progress_of p tree line numbers x).asks_up k ≡ true
 ask_number p tree line numbers is_new k x a known waits some =
     let m = one (list_at line k UpRequests) some in
-    let y = numbered (list_at line k UpRequests) (numbers.lists k UpRequests) m.0 (known.lists k UpRequests (λ bad. cc)) m.1 in
+    let y = numbered_head (list_at line k UpRequests) (numbers.lists k UpRequests) m.0 (known.lists k UpRequests (λ bad. cc)) m.1 in
     let there = carries_first is_any y.0 (list_at line k UpRequests) (numbers.lists k UpRequests) m.0 m.1 y.1 refl in
     let holds = (known.shapes y.0).below.asks_up k there in
     let same : y.0 ≡ x = sym (held_number tree k y.0 (numbers.up k) (uplock_at line k) holds.asker holds.held) ∙ held_number tree k x (numbers.up k) (uplock_at line k) a waits in

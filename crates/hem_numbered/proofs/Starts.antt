@@ -12,13 +12,13 @@ use Rattle.hem_system.specs.declared.lane.Lane.{Lane}
 use Rattle.hem_system.specs.declared.lane.Lane.TheVariants.{UpRequests, UpResponses, Down, Requests, Answers}
 use Rattle.hem_system.specs.State.{Cell, State, Line, list_of, list_at, first_cell, first_line, start}
 use Rattle.hem_rows.proofs.Choices.{if_mapped}
-use Rattle.hem_law.proofs.LineParts.{slice_get-map_each}
 use Rattle.hem_rows.specs.Acts.{is_down_request, is_down_response}
 use Rattle.hem_locks.specs.Edges.{AllLocksHold}
 use Rattle.hem_shape.specs.Progress.{IsBlank}
 use Rattle.hem_shape.proofs.Phases.{blank_shape}
 use Rattle.hem_numbered.specs.Numbers.{no_numbers, carries, is_any, held_for, uplock_at, downlock_at, progress_of}
 use Rattle.hem_numbered.specs.Histories.{AreKnown}
+use Rattle.hem_system.proofs.Own.{slice_get-map_each}
 
 -- a line on which no channel has a message, and no lock is held
 pub record IsIdle (line : Line) : Type 0 where
@@ -35,7 +35,7 @@ first_idle p tree requests =
     }
   where
     at : (k : ℕ) → slice_get (first_line p tree requests) k ≡ option_map (first_cell p tree requests k) (slice_get tree k)
-    at k = slice_get-map_each (first_cell p tree requests) 0 k tree ∙ ap (λ i. option_map (first_cell p tree requests i) (slice_get tree k)) (let z : 0 + k ≡ k = omega arith in z)
+    at k = slice_get-map_each (first_cell p tree requests) 0 tree k ∙ ap (λ i. option_map (first_cell p tree requests i) (slice_get tree k)) (let z : 0 + k ≡ k = omega arith in z)
 
     no_list : (k : ℕ) (lane : Lane) → lane ≢ Requests → (node : Option Node) → option_map_or (λ cell. list_of cell lane) (option_map (first_cell p tree requests k) node) [] ≡ []
     no_list k lane other None = refl

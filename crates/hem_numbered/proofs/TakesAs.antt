@@ -20,6 +20,7 @@ use Rattle.hem_shape.specs.Move.{Taking, request, parent_answer, child_answers, 
 use Rattle.hem_shape.proofs.Spots.{same_or_other, set_here, set_there}
 use Rattle.hem_numbered.specs.Numbers.{Numbers, carries, is_any, progress_of, downlock_at}
 use Rattle.hem_numbered.specs.Bounds.{AreBounded, count, awaits}
+use Rattle.hem_locks.proofs.Places.{and_false, and_true}
 use Rattle.hem_numbered.proofs.Carried.{carries_none, carries_gone, carries_passed, carries_short, count_any}
 
 -- whether what a firing leaves of a list carries n
@@ -41,14 +42,6 @@ left_all test tree f outs line numbers n lane k not_taken = ap (λ b. carries te
 -- a list that is taken from
 left_one : (test : Message → Bool) (tree : Tree) (f : Firing) (outs : Outs) (line : Line) (numbers : Numbers) (n : ℕ) (lane : Lane) (k : ℕ) → takes tree f outs k lane ≡ true → left test tree f outs line numbers n lane k ≡ carries test n (drop 1 (list_at line k lane)) (drop 1 (numbers.lists k lane))
 left_one test tree f outs line numbers n lane k is_taken = ap (λ b. carries test n (drop (cond b 1 0) (list_at line k lane)) (drop (cond b 1 0) (numbers.lists k lane))) is_taken
-
-and_false : (b : Bool) → (b && false) ≡ false
-and_false true = refl
-and_false false = refl
-
-and_true : (b : Bool) → (b && not false) ≡ b
-and_true true = refl
-and_true false = refl
 
 pub no_bits : (i : ℕ) → has_bit 0 i ≡ false
 no_bits i = ap (λ b. b == 1) (bit_at-zero i)

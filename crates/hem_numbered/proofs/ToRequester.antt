@@ -1,6 +1,6 @@
 -- The answer to whoever asked.
-use Rattle.std.proofs.Common.{◌≡◌, ℕ, ◌<◌, Bool, true, false, ◌&&◌, length, refl, sym, ap, ◌∙◌, subst, Option, Some, None, inl, inr, ◌⊎◌}
-use Rattle.std.specs.Prelude.{◌==◌, slice_get, option_map}
+use Rattle.std.proofs.Common.{◌≡◌, ℕ, Bool, true, false, ◌&&◌, refl, sym, ap, ◌∙◌, subst, Option, Some, None, inl, inr, ◌⊎◌}
+use Rattle.std.specs.Prelude.{◌==◌, slice_get}
 use Rattle.std.specs.Option.{option_map_or}
 use Rattle.std.proofs.lemmas.Bool.{eqb-true}
 use Rattle.hem_base.specs.declared.ids.Kind.{Kind}
@@ -13,7 +13,7 @@ use Rattle.hem_object.specs.declared.state.By.{By}
 use Rattle.hem_object.specs.declared.state.By.TheVariants.{Processor, Kid, Parent, Own}
 use Rattle.hem_syntax.specs.Protocol.{Protocol, class_of, has_class, is_down_req, is_down_rsp}
 use Rattle.hem_template.specs.Template.{is_leaf}
-use Rattle.hem_tree.specs.Tree.{Tree, Node, kind_of, children_of, is_child, place_among, IsTree}
+use Rattle.hem_tree.specs.Tree.{Tree, kind_of, children_of, is_child, place_among, IsTree}
 use Rattle.hem_fire.specs.declared.outs.To.TheVariants as to
 use Rattle.hem_fire.specs.declared.outs.Outs.{Outs}
 use Rattle.hem_fire.specs.Sends.{to_requester}
@@ -21,11 +21,11 @@ use Rattle.hem_system.specs.declared.lane.Lane.{Lane}
 use Rattle.hem_system.specs.declared.lane.Lane.TheVariants.{UpRequests, UpResponses, Down}
 use Rattle.hem_system.specs.State.{reaches}
 use Rattle.hem_system.proofs.Kids.{child_at}
-use Rattle.std.proofs.lemmas.Option.{slice_get_within}
 use Rattle.hem_rows.specs.Acts.{is_down_response}
 use Rattle.hem_shape.specs.Progress.{child, processor}
 use Rattle.hem_shape.specs.Move.{answer}
 use Rattle.hem_numbered.specs.Numbers.{asker_of}
+use Rattle.hem_locks.proofs.Places.{within}
 use Rattle.hem_numbered.proofs.Held.{Asks}
 use Rattle.hem_numbered.proofs.GivesAs.{GivesAs, nowhere_as, processor_reached, answer_down_as}
 
@@ -53,14 +53,6 @@ other_class (Some DownRsp) is = cc
 
 pub request_no_response : (p : Protocol) (id : MsgId) → has_class p id is_down_req ≡ true → has_class p id is_down_rsp ≡ false
 request_no_response p id is = other_class (class_of p id) is
-
--- an object of a kind is in the tree
-pub within : (tree : Tree) (o : ℕ) (kind : Kind) → kind_of tree o ≡ Some kind → o < length tree
-within tree o kind is = by_node (slice_get tree o) refl is
-  where
-    by_node : (node : Option Node) → slice_get tree o ≡ node → option_map (λ node. node.kind) node ≡ Some kind → o < length tree
-    by_node None at is = absurd (let bad : None ≡ Some kind = is in cc)
-    by_node (Some node) at is = slice_get_within tree o node at
 
 -- an object with a child is no leaf
 parents_no_leaf : (tree : Tree) (o i c : ℕ) (kind : Kind) → IsTree tree → kind_of tree o ≡ Some kind → slice_get (children_of tree o) i ≡ Some c → is_leaf kind ≡ false

@@ -3,6 +3,7 @@ use Rattle.std.proofs.Common.{◌≡◌, ◌≢◌, ℕ, ◌+◌, ◌<◌, ◌�
 use Rattle.std.specs.Prelude.{◌==◌, slice_get, option_map, option_and_then, slice_set}
 use Rattle.std.proofs.str.Laws.{order}
 use Rattle.std.proofs.lemmas.Bool.{eqb-true}
+use Rattle.std.proofs.lemmas.List.{append-nil}
 use Rattle.hem_base.specs.declared.ids.Firing.{Firing}
 use Rattle.hem_syntax.specs.Protocol.{Protocol}
 use Rattle.hem_template.specs.Template.{row_of}
@@ -17,12 +18,12 @@ use Rattle.hem_trace.specs.History.{Channel, events, takes_from}
 use Rattle.hem_trace.specs.Tags.{Tags, tags_after, number_at, numbers_by_tags}
 use Rattle.hem_trace.specs.Order.{Entry, entries_from}
 use Rattle.hem_law.specs.Normal.{AreNumbered}
-use Rattle.hem_rows.proofs.Choices.{if_some}
+use Rattle.hem_rows.proofs.Choices.{if_some, both}
 use Rattle.hem_rows.specs.Rows.{IsTaking, AllHaveTemplates}
 use Rattle.hem_rows.specs.Acts.{takes_kids}
 use Rattle.hem_locks.proofs.States.{IsMade, made}
 use Rattle.hem_shape.specs.Progress.{set_at}
-use Rattle.hem_shape.proofs.Spots.{same_or_other, set_here, set_there, true_false, and_both}
+use Rattle.hem_shape.proofs.Spots.{same_or_other, set_here, set_there, true_false}
 use Rattle.hem_numbered.specs.Numbers.{Numbers}
 use Rattle.hem_numbered.specs.Firings.{HasNumber}
 use Rattle.hem_numbered.specs.Histories.{tags_of, AreKnown}
@@ -85,10 +86,6 @@ pub append_one : (past : List Entry) (x : Entry) (xs : List Entry) → (past ++ 
 append_one [] x xs = refl
 append_one (y ∷ past) x xs = ap (λ l. y ∷ l) (append_one past x xs)
 
-pub append_nothing : (past : List Entry) → past ++ [] ≡ past
-append_nothing [] = refl
-append_nothing (y ∷ past) = ap (λ l. y ∷ l) (append_nothing past)
-
 -- one event more
 walk_on : (p : Protocol) (tree : Tree) (owner : ℕ → ℕ) (line : Line) (mid new : State) (all : ℕ → Numbers) (is_new : ℕ → Bool) (past : List Entry) (f : Firing) (e : Effect) (place n : ℕ) (es : List Event) → IsStep p tree owner line mid all is_new past f e place n (λ y. y == place) → ((step : IsStep p tree owner line mid all is_new past f e place n (λ y. y == place)) → n ≤ place → IsWalked p tree owner new (past ++ entry_by p tree place n f e ∷ []) (numbered_from p tree (place + 1) (tags_of (set_at f.line.0 step.now all)) es) (tags_of (set_at f.line.0 step.now all))) → n ≤ place → n ≡ number_at tree (tags_of all) place (event_by f e) → IsWalked p tree owner new past (numbered_from p tree place (tags_of all) (event_by f e ∷ es)) (tags_of all)
 walk_on p tree owner line mid new all is_new past f e place n es step rest early is =
@@ -109,8 +106,8 @@ walk_on p tree owner line mid new all is_new past f e place n es step rest early
   where
     on_line : (c : Channel) → c.lane ≢ Requests → takes_from tree c (event_by f e) ≡ true → slice_get (tags_of all c) 0 ≡ Some n
     on_line c other is =
-        let both = and_both (f.line.0 == c.line) (takes tree f e.outs c.object c.lane) is in
-        ap (λ l. slice_get ((all l).lists c.object c.lane) 0) (sym (eqb-true f.line.0 c.line both.0)) ∙ step.takes c.object c.lane other both.1
+        let parts = both (f.line.0 == c.line) (takes tree f e.outs c.object c.lane) is in
+        ap (λ l. slice_get ((all l).lists c.object c.lane) 0) (sym (eqb-true f.line.0 c.line parts.0)) ∙ step.takes c.object c.lane other parts.1
 
 -- the number of an event of a history
 pub event_number : (p : Protocol) (tree : Tree) (owner : ℕ → ℕ) (s mid : State) (all : ℕ → Numbers) (is_new : ℕ → Bool) (past : List Entry) (f : Firing) (place : ℕ) → IsTree tree → AllHaveTemplates p → (it : IsMade p tree s f mid) → AreKnown p tree owner s all is_new past → HasNumber tree f it.effect.outs (all f.line.0).lists (λ y. y == place) (number_at tree (tags_of all) place (event_by f it.effect))
@@ -137,7 +134,7 @@ walk p tree owner [] s new all is_new past place lawful templates known runs lat
       least = tt;
       all = all;
       is_new = is_new;
-      known = subst (λ l. AreKnown p tree owner new all is_new l) (sym (append_nothing past)) (subst (λ s. AreKnown p tree owner s all is_new past) same known);
+      known = subst (λ l. AreKnown p tree owner new all is_new l) (sym (append-nil past)) (subst (λ s. AreKnown p tree owner s all is_new past) same known);
     }
 walk p tree owner (f ∷ h) s new all is_new past place lawful templates known runs late fits =
     let first = if_some (λ next. run p tree next h) (fire p tree s f) new runs in

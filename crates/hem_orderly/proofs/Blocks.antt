@@ -21,17 +21,11 @@ use Rattle.hem_law.specs.Windows.{AreWholeBlocks}
 use Rattle.hem_law.proofs.ListFacts.{each-filter}
 use Rattle.hem_windows.specs.Blocks.{templates_at, are_blocks}
 use Rattle.hem_orderly.specs.Climbs.{IsTemplated}
+use Rattle.hem_windows.proofs.Windows.{filter_map-some, filter_map-none}
 
 -- the template of an entry
 abbrev entry_template : Protocol → Tree → Entry → Option TemplateName
 entry_template p tree x = template_at p tree x.event.firing
-
--- one template more, and none more
-filter_map-some : {A B : Type 0} (g : A → Option B) (x : A) (xs : List A) (y : B) → g x ≡ Some y → filter_map g (x ∷ xs) ≡ y ∷ filter_map g xs
-filter_map-some g x xs y is = rw is refl
-
-filter_map-none : {A B : Type 0} (g : A → Option B) (x : A) (xs : List A) → g x ≡ None → filter_map g (x ∷ xs) ≡ filter_map g xs
-filter_map-none g x xs is = rw is refl
 
 -- what an object of a line fires, by the entries there
 templates_are : (p : Protocol) (tree : Tree) (l o : ℕ) (xs : List Entry) → Each (IsTemplated p tree) xs → templates_at p tree o (line_firings l (firings_in xs)) ≡ filter_map (entry_template p tree) (entries_at l o xs)

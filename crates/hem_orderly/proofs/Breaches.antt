@@ -9,8 +9,8 @@ use Rattle.hem_syntax.specs.Protocol.{Protocol, rule_named}
 use Rattle.hem_template.specs.Template.{template_of}
 use Rattle.hem_template.specs.Waiting.{is_upward_template}
 use Rattle.hem_abstract.specs.Stable.{Breach, first_unstable, IsStable}
-use Rattle.hem_shape.proofs.Spots.{and_both}
 use Rattle.hem_orderly.specs.Breaches.{have_no_breach}
+use Rattle.hem_rows.proofs.Choices.{both}
 
 -- an upward request that passes the test has no breach
 none_there : (upward : Bool) (breach : Option Breach) → (not upward || is_none breach) ≡ true → upward ≡ true → breach ≡ None
@@ -22,7 +22,7 @@ none_there false breach is up = cc
 found_stable : (p : Protocol) (kind : Kind) (name : RuleId) (rules : List Rule) (rule : Rule) → have_no_breach p kind rules ≡ true → find (λ r. r.name.0 == name.0) rules ≡ Some rule → is_upward_template (template_of p kind rule) ≡ true → first_unstable p kind rule ≡ None
 found_stable p kind name [] rule all is up = absurd (let bad : None ≡ Some rule = is in cc)
 found_stable p kind name (r ∷ rules) rule all is up =
-    let parts = and_both (not (is_upward_template (template_of p kind r)) || is_none (first_unstable p kind r)) (have_no_breach p kind rules) all in
+    let parts = both (not (is_upward_template (template_of p kind r)) || is_none (first_unstable p kind r)) (have_no_breach p kind rules) all in
     by_name (r.name.0 == name.0) is (λ up. none_there (is_upward_template (template_of p kind r)) (first_unstable p kind r) parts.0 up) (λ rest. found_stable p kind name rules rule parts.1 rest up)
   where
     by_name : (b : Bool) → cond b (Some r) (find (λ r. r.name.0 == name.0) rules) ≡ Some rule → (is_upward_template (template_of p kind r) ≡ true → first_unstable p kind r ≡ None) → (find (λ r. r.name.0 == name.0) rules ≡ Some rule → first_unstable p kind rule ≡ None) → first_unstable p kind rule ≡ None

@@ -1,7 +1,6 @@
 -- A firing while a transaction's request is on its way up: the transaction's own takes the request, and no other does.
-use Rattle.std.proofs.Common.{◌≡◌, ℕ, ◌≤◌, Bool, true, false, cond, ◌&&◌, ◌||◌, List, [], ◌∷◌, length, drop, refl, sym, ap, ◌∙◌, subst, arith, Option, Some, None, inl, inr}
+use Rattle.std.proofs.Common.{◌≡◌, ℕ, ◌≤◌, Bool, true, false, cond, ◌&&◌, ◌||◌, List, [], ◌∷◌, length, drop, refl, sym, ap, ◌∙◌, subst, arith, Option, Some, None}
 use Rattle.std.specs.Prelude.{◌==◌, slice_get}
-use Rattle.std.specs.List.{list_all}
 use Rattle.std.specs.Option.{option_map_or}
 use Rattle.std.proofs.lemmas.Bool.{eqb-true}
 use Rattle.hem_base.specs.declared.ids.Firing.{Firing}
@@ -24,21 +23,14 @@ use Rattle.hem_windows.specs.Pending.{takes_of}
 use Rattle.hem_windows.proofs.Pending.{child_named}
 use Rattle.hem_shape.specs.Progress.{Asker, child, processor, parent, itself, Progress}
 use Rattle.hem_shape.specs.Move.{Taking, request, parent_answer, child_answers, Giving, answer, ask_up, ask_down, template_name, taken, recorded, given, CanTake}
-use Rattle.hem_shape.specs.Shape.{is_asking_up, AskedDownFor, HasShape}
-use Rattle.hem_shape.proofs.Spots.{set_here, true_false, and_both}
+use Rattle.hem_shape.specs.Shape.{is_asking_up, HasShape}
+use Rattle.hem_shape.proofs.Spots.{set_here, true_false}
 use Rattle.hem_numbered.specs.Numbers.{Numbers, carries, is_any, progress_of}
 use Rattle.hem_numbered.specs.Histories.{AreKnown}
 use Rattle.hem_numbered.proofs.TakesAs.{left, TakesAs, child_here}
 use Rattle.hem_numbered.proofs.Histories.{IsStep}
-
--- where a downlock is held, something else than a request upward has been fired
-asked_not_up : (asker : Asker) (fired : List TemplateName) → AskedDownFor asker fired → list_all is_asking_up fired ≡ true → ⊥
-asked_not_up (child c) fired (inl is) up = let bad : false ≡ true = sym (ap (list_all is_asking_up) is) ∙ up in cc
-asked_not_up (child c) fired (inr is) up = let bad : false ≡ true = sym (ap (list_all is_asking_up) is) ∙ up in cc
-asked_not_up processor fired (inl is) up = let bad : false ≡ true = sym (ap (list_all is_asking_up) is) ∙ up in cc
-asked_not_up processor fired (inr is) up = let bad : false ≡ true = sym (ap (list_all is_asking_up) is) ∙ up in cc
-asked_not_up parent fired is up = let bad : false ≡ true = sym (ap (list_all is_asking_up) is) ∙ up in cc
-asked_not_up itself fired is up = let bad : false ≡ true = sym (ap (list_all is_asking_up) is) ∙ up in cc
+use Rattle.hem_shape.proofs.Ready.{down_not_up}
+use Rattle.hem_rows.proofs.Choices.{both}
 
 -- a firing that takes a child's request and sends a request up is of one template
 child_up : (c : ℕ) (gives : Giving) (t : TemplateName) → template_name request (child c) gives ≡ Some t → is_asking_up t ≡ true → t ≡ RqUp
@@ -52,7 +44,7 @@ request_taken p tree f t outs line numbers n top (child c) request gives shape a
     (subst (λ k. takes_of k f ≡ true) ((shape.rising top asks).only c can.there) (by_test (takes tree f outs c UpRequests) refl), (λ up. child_up c gives t named up))
   where
     by_test : (b : Bool) → takes tree f outs c UpRequests ≡ b → takes_of c f ≡ true
-    by_test true is = (and_both outs.taken_request (takes_of c f) (and_both (outs.taken_request && takes_of c f) (is_child tree c f.object.0) is).0).1
+    by_test true is = (both outs.taken_request (takes_of c f) (both (outs.taken_request && takes_of c f) (is_child tree c f.object.0) is).0).1
     by_test false is =
         let all : left is_any tree f outs line numbers n UpRequests c ≡ true = ap (λ b. carries is_any n (drop (cond b 1 0) (list_at line c UpRequests)) (drop (cond b 1 0) (numbers.lists c UpRequests))) is ∙ can.there in
         absurd (true_false all (lists.asks_up c ∙ set_here c false (progress_of p tree line numbers n).asks_up c refl))
@@ -61,7 +53,7 @@ request_taken p tree f t outs line numbers n top processor request gives shape a
 request_taken p tree f t outs line numbers n top itself request gives shape asks named can lists = absurd (true_false asks (can.asks_up top))
 request_taken p tree f t outs line numbers n top asker parent_answer gives shape asks named can lists = absurd (true_false can.there ((shape.rising top asks).no_answers_down f.object.0))
 request_taken p tree f t outs line numbers n top asker child_answers gives shape asks named can lists =
-    absurd (asked_not_up asker ((progress_of p tree line numbers n).fired f.object.0) (shape.asked f.object.0 asker can.down) ((shape.rising top asks).upward f.object.0))
+    absurd (down_not_up asker ((progress_of p tree line numbers n).fired f.object.0) (shape.asked f.object.0 asker can.down) ((shape.rising top asks).upward f.object.0))
 
 -- a firing that names a child takes the child's request
 named_takes : (kind : Kind) (taking : row.Taking) (me : Option ℕ) (c : ℕ) → me ≡ Some c → IsNamed kind taking me → takes_me taking ≡ true

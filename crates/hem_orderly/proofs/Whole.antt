@@ -25,7 +25,7 @@ use Rattle.hem_locks.proofs.States.{start-holds}
 use Rattle.hem_windows.proofs.Windows.{window_of}
 use Rattle.hem_shape.specs.Progress.{set_at}
 use Rattle.hem_shape.specs.Shape.{is_asking_up}
-use Rattle.hem_shape.proofs.Spots.{set_here, and_both}
+use Rattle.hem_shape.proofs.Spots.{set_here}
 use Rattle.hem_numbered.specs.Numbers.{Numbers, no_numbers, progress_of}
 use Rattle.hem_numbered.proofs.Histories.{entry_by, upward_is}
 use Rattle.hem_numbered.proofs.OnlyUp.{rising_from}
@@ -33,6 +33,7 @@ use Rattle.hem_numbered.proofs.Starts.{start_idle, known_start}
 use Rattle.hem_numbered.proofs.Whole.{line_at, owners, history_rises}
 use Rattle.hem_orderly.specs.Anchors.{HasAnchor, HaveAnchors}
 use Rattle.hem_orderly.specs.Waits.{Waits, EachWaits, TellsUpward}
+use Rattle.hem_rows.proofs.Choices.{both}
 use Rattle.hem_orderly.proofs.Anchors.{have_anchors}
 use Rattle.hem_orderly.proofs.Steps.{IsAt, entries_on, Next, next}
 use Rattle.hem_orderly.proofs.Rising.{asks_next}
@@ -79,7 +80,7 @@ each_waits p tree owner (f ∷ h) s new all is_new past place es at only_up anch
     one it only anchor moved =
         let rest = entries_on p tree h it.mid (set_at f.line.0 it.step.now all) (place + 1) in
         let of = it.step.of in
-        let upward : is_upward p tree f ≡ true = (and_both (is_upward p tree f) (nat_lt place (anchor_of es it.n)) moved).0 in
+        let upward : is_upward p tree f ≡ true = (both (is_upward p tree f) (nat_lt place (anchor_of es it.n)) moved).0 in
         let asks : is_asking_up of.t ≡ true = sym (upward_is p tree f of.kind of.rule of.t of.is.kind_is of.named of.template) ∙ upward in
         let has = upward_firing p tree f of.t (record { kind = of.kind; rule = of.rule; kind_is = of.is.kind_is; named = of.named; template = of.template }) (asking of.t asks) in
         let to = anchor moved in

@@ -19,10 +19,11 @@ use Rattle.hem_trace.specs.History.{head_seen}
 use Rattle.hem_law.specs.Chains.{heads_seen, ChainStep}
 use Rattle.hem_rows.proofs.Choices.{both}
 use Rattle.hem_law.proofs.OwnEffect.{own_effect-took}
-use Rattle.hem_law.proofs.LineParts.{slice_get-map_each, length-map_each}
+use Rattle.hem_law.proofs.LineParts.{length-map_each}
 use Rattle.hem_law.proofs.AllLines.{same_elements}
 use Rattle.hem_parts.specs.Steps.{head_among}
 use Rattle.hem_system.specs.Events.{event_of}
+use Rattle.hem_system.proofs.Own.{slice_get-map_each}
 use Rattle.hem_parts.proofs.AllRun.{there-too, none-too}
 
 -- heads that are taken once more
@@ -73,7 +74,7 @@ fired-sees p tree f now heads e k UpResponses fires t =
     let i = place_among tree f.object.0 k in
     let bit = (both (is_child tree k f.object.0) _ t).1 in
     ap (λ (h : Heads). option_and_then (λ head. head) (slice_get h.kids i)) (own_effect-took p tree f now heads e fires)
-    ∙ ap (option_and_then (λ head. head)) (slice_get-map_each (λ k head. cond (has_bit e.outs.taken_kids.0 k) head None) 0 i heads.kids)
+    ∙ ap (option_and_then (λ head. head)) (slice_get-map_each (λ k head. cond (has_bit e.outs.taken_kids.0 k) head None) 0 heads.kids i)
     ∙ ap (λ j. option_and_then (λ head. head) (option_map (λ head. cond (has_bit e.outs.taken_kids.0 j) head None) (slice_get heads.kids i))) (let z : 0 + i ≡ i = omega arith in z)
     ∙ ap (λ b. option_and_then (λ head. head) (option_map (λ head. cond b head None) (slice_get heads.kids i))) bit
     ∙ same (slice_get heads.kids i)

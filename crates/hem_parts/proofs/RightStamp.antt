@@ -16,19 +16,10 @@ use Rattle.hem_system.specs.Events.{Event}
 use Rattle.hem_trace.specs.History.{Channel, channels_taken}
 use Rattle.hem_trace.specs.Blocks.{Each}
 use Rattle.hem_rows.proofs.Choices.{both}
-use Rattle.hem_law.proofs.ListFacts.{each-map}
+use Rattle.hem_law.proofs.ListFacts.{each-map, each-left, each-right}
 use Rattle.hem_law.proofs.TakenChannels.{NamesOwnChild, IsTakenFrom, channels-taken}
 use Rattle.hem_parts.specs.Stamps.{first_stamp, IsStamp}
 use Rattle.hem_parts.specs.Restamped.{Clocks, greatest, stamp_in, right_stamp}
-
--- what holds of each channel that an event takes from
-each-left : {A : Type 0} (P : A → Type 0) (xs ys : List A) → Each P (xs ++ ys) → Each P xs
-each-left P [] ys all = tt
-each-left P (x ∷ xs) ys all = (all.0, each-left P xs ys all.1)
-
-each-right : {A : Type 0} (P : A → Type 0) (xs ys : List A) → Each P (xs ++ ys) → Each P ys
-each-right P [] ys all = all
-each-right P (x ∷ xs) ys all = each-right P xs ys all.1
 
 each-passing : (P : Channel → Type 0) (G : ℕ → Channel) (test : ℕ → Bool) (ks : List ℕ) (i k : ℕ) → Each P (map G (filter test ks)) → slice_get ks i ≡ Some k → test k ≡ true → P (G k)
 each-passing P G test [] i k all at passes = cc

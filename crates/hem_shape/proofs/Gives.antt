@@ -7,7 +7,8 @@ use Rattle.hem_shape.specs.Subtree.{InSubtree}
 use Rattle.hem_shape.specs.Progress.{Asker, child, processor, parent, itself, Progress, set_at}
 use Rattle.hem_shape.specs.Move.{answer, given, recorded}
 use Rattle.hem_shape.specs.Shape.{HasShape, IsHeld, IsHeldAbove, WaitsAbove, IsUntouchedBut, AskedDownFor, asked_up_for, is_asking_up}
-use Rattle.hem_shape.proofs.Subtrees.{child_parent, in_own}
+use Rattle.hem_system.proofs.Takers.{parent_is}
+use Rattle.hem_shape.proofs.Subtrees.{in_own}
 use Rattle.hem_shape.proofs.Spots.{same_or_other, set_here, set_there, set_cases, or_cases, true_false}
 use Rattle.hem_shape.proofs.Ready.{IsReady, StillWaits, held_more}
 
@@ -114,7 +115,7 @@ requests_given tree at o asker targets ready waits fired own new_ones =
       above = record {
         asks_down = λ k there. ⊎_elim
             (λ old. above_more tree o asker at.down k (ready.above.asks_down k old))
-            (λ new. record { high = o; above = child_parent tree k o (own k new); lock = record { asker = asker; held = set_here o (Some asker) at.down o refl } })
+            (λ new. record { high = o; above = parent_is tree k o (own k new); lock = record { asker = asker; held = set_here o (Some asker) at.down o refl } })
             (or_cases (at.asks_down k) (targets k) there);
         answers_up = λ k there. above_more tree o asker at.down k (ready.above.answers_up k there);
         down = λ k held. ⊎_elim

@@ -9,7 +9,8 @@ use Rattle.hem_shape.specs.Subtree.{InSubtree}
 use Rattle.hem_shape.specs.Progress.{Asker, child, processor, parent, itself, Progress, set_at}
 use Rattle.hem_shape.specs.Move.{Taking, request, parent_answer, child_answers, Giving, answer, ask_up, ask_down, Move, CanTake, CanTakeChild, CanGive, CanMove, template_name, taken, recorded, given, progress_after}
 use Rattle.hem_shape.specs.Shape.{HasShape, IsUntouchedBut, AskedDownFor, asked_up_for, is_asking_up}
-use Rattle.hem_shape.proofs.Subtrees.{child_parent, in_parents, not_in_child, one_branch}
+use Rattle.hem_system.proofs.Takers.{parent_is}
+use Rattle.hem_shape.proofs.Subtrees.{in_parents, not_in_child, one_branch}
 use Rattle.hem_shape.proofs.Spots.{set_here, set_there}
 use Rattle.hem_shape.proofs.Ready.{IsReady, StillWaits, empty_unless, recorded_ready, untouched_more}
 use Rattle.hem_shape.proofs.Gives.{IsOnlyBelow, answer_given, request_given, requests_given, only_more}
@@ -34,14 +35,14 @@ asked_down tree early at o asker t targets ready waits fired but own can =
     requests_given tree (recorded o t at) o asker targets (recorded_ready tree at o t ready) waits
     (subst (λ fired. AskedDownFor asker fired) (sym (set_here o now at.fired o refl)) fired)
     (λ k is. (can k is).0)
-    (λ d k is within. set_there o now at.fired k (λ same. not_in_child tree early d o (child_parent tree d o (can d is).0) (subst (λ j. InSubtree tree j d) same within)) ∙ unfired d k is within)
+    (λ d k is within. set_there o now at.fired k (λ same. not_in_child tree early d o (parent_is tree d o (can d is).0) (subst (λ j. InSubtree tree j d) same within)) ∙ unfired d k is within)
   where
     unfired : (d k : ℕ) → targets d ≡ true → InSubtree tree k d → at.fired k ≡ []
     unfired d k is within =
         empty_unless (at.fired k) (λ some.
-        let above = child_parent tree d o (can d is).0 in
+        let above = parent_is tree d o (can d is).0 in
         let way = but k (in_parents tree k d o above within) (λ same. not_in_child tree early d o above (subst (λ j. InSubtree tree j d) same within)) some in
-        (can d is).1 (way.1 ∙ ap child (one_branch tree early k way.0 d o (child_parent tree way.0 o (own way.0 way.1)) above way.2 within)))
+        (can d is).1 (way.1 ∙ ap child (one_branch tree early k way.0 d o (parent_is tree way.0 o (own way.0 way.1)) above way.2 within)))
 
 -- what has been fired after one template more
 after : (fired : List TemplateName) (t : TemplateName) (before : List TemplateName) (s : TemplateName) → fired ≡ before → t ≡ s → fired ++ t ∷ [] ≡ before ++ s ∷ []

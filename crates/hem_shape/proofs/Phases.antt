@@ -11,7 +11,8 @@ use Rattle.hem_shape.specs.Move.{Taking, request, parent_answer, child_answers, 
 use Rattle.hem_shape.specs.Shape.{HasShape, is_asking_up}
 use Rattle.hem_trace.specs.Blocks.{Each}
 use Rattle.hem_shape.specs.Phases.{Made, ClimbsFrom, IsClimb, IsRooted, Rises, Falls, HasForm, IsUnbegun, HasPhases, made_by}
-use Rattle.hem_shape.proofs.Subtrees.{child_parent, child_in, in_own, in_early, in_parents, in_higher, not_in_child, parent_other}
+use Rattle.hem_system.proofs.Takers.{parent_is}
+use Rattle.hem_shape.proofs.Subtrees.{child_in, in_own, in_early, in_parents, in_higher, not_in_child, parent_other}
 use Rattle.hem_shape.proofs.Spots.{same_or_other, set_here, set_there, set_cases, true_false, not_false}
 use Rattle.hem_shape.proofs.Ready.{up_fired, down_fired, down_not_up, some_none}
 
@@ -58,7 +59,7 @@ pub record RisesFrom (tree : Tree) (at : Progress) (o low : ℕ) : Type 0 where
 rises_from : (tree : Tree) → IsEarly tree → (o : ℕ) (asker : Asker) (takes : Taking) (at : Progress) (low : ℕ) → HasShape tree at → CanTake tree o asker takes at → at.asks_up low ≡ true → RisesFrom tree at o low
 rises_from tree early o (child c) request at low shape can asks =
     let way = shape.rising c can.there in
-    let above = child_parent tree c o can.own in
+    let above = parent_is tree c o can.own in
     record { each = λ k some. let within = way.within k some in (in_parents tree k c o above within, λ same. not_in_child tree early c o above (subst (λ j. InSubtree tree j c) same within)); above = ap (parent_of tree) (way.only low asks) ∙ above }
 rises_from tree early o parent request at low shape can asks = absurd (true_false can.there ((shape.rising low asks).no_asks_down o))
 rises_from tree early o processor request at low shape can asks = absurd (true_false asks (can.asks_up low))

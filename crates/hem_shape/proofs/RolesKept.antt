@@ -9,8 +9,9 @@ use Rattle.hem_shape.specs.Progress.{Asker, child, processor, parent, itself, Pr
 use Rattle.hem_shape.specs.Move.{Taking, request, parent_answer, child_answers, Giving, answer, ask_up, ask_down, Move, CanTake, CanMove, template_name, progress_after}
 use Rattle.hem_shape.specs.Shape.{HasShape, AskedDownFor}
 use Rattle.hem_shape.specs.Roles.{begins_role, follows, goes_on, is_role, HasRoles, IsBeside}
-use Rattle.hem_shape.proofs.Subtrees.{child_parent}
-use Rattle.hem_shape.proofs.Spots.{same_or_other, set_here, set_there, and_both}
+use Rattle.hem_rows.proofs.Choices.{both}
+use Rattle.hem_system.proofs.Takers.{parent_is}
+use Rattle.hem_shape.proofs.Spots.{same_or_other, set_here, set_there}
 use Rattle.hem_shape.proofs.Ready.{up_fired, down_fired}
 use Rattle.hem_shape.proofs.Takes.{child_fired, parent_fired}
 use Rattle.hem_shape.proofs.Phases.{fired_after}
@@ -47,16 +48,16 @@ at_most_two _ = omega arith
 short_rest : (t : TemplateName) (ts : List TemplateName) → goes_on t ts ≡ true → length ts ≤ rank t
 short_rest t [] is = omega arith
 short_rest t (s ∷ ts) is =
-    let both = and_both (follows t s) (goes_on s ts) is in
-    let one = falls_off t s both.0 in
-    let rest = short_rest s ts both.1 in
+    let parts = both (follows t s) (goes_on s ts) is in
+    let one = falls_off t s parts.0 in
+    let rest = short_rest s ts parts.1 in
     omega (arith, one, rest)
 
 -- a role is of at most three
 pub at_most_three : (ts : List TemplateName) → is_role ts ≡ true → length ts ≤ 3
 at_most_three [] is = omega arith
 at_most_three (t ∷ ts) is =
-    let rest = short_rest t ts (and_both (begins_role t) (goes_on t ts) is).1 in
+    let rest = short_rest t ts (both (begins_role t) (goes_on t ts) is).1 in
     let two = at_most_two t in
     omega (arith, rest, two)
 
@@ -110,7 +111,7 @@ roles_kept tree m t at lawful shape can roles =
 beside : (tree : Tree) (o : ℕ) (asker : Asker) (takes : Taking) (at : Progress) → HasShape tree at → CanTake tree o asker takes at → IsBlank at ⊎ IsBeside tree at o
 beside tree o (child c) request at shape can =
     let held = shape.below.asks_up c can.there in
-    inr (inr (inl (c, child_parent tree c o can.own, up_fired held.asker (at.fired c) (shape.waits c held.asker held.held).asked)))
+    inr (inr (inl (c, parent_is tree c o can.own, up_fired held.asker (at.fired c) (shape.waits c held.asker held.held).asked)))
 beside tree o parent request at shape can =
     let above = shape.above.asks_down o can.there in
     inr (inr (inr (above.high, above.above, down_fired above.lock.asker (at.fired above.high) (shape.asked above.high above.lock.asker above.lock.held))))

@@ -9,7 +9,8 @@ use Rattle.hem_shape.specs.Progress.{Asker, child, processor, parent, itself, Pr
 use Rattle.hem_shape.specs.Move.{Taking, request, parent_answer, child_answers, Move, CanTake, CanMove, progress_after}
 use Rattle.hem_shape.specs.Shape.{HasShape}
 use Rattle.hem_shape.specs.Ways.{IsAmong, GoesUp, GoesDown, HasWays}
-use Rattle.hem_shape.proofs.Subtrees.{child_parent, child_in, in_early, child_in_child, parent_other}
+use Rattle.hem_system.proofs.Takers.{parent_is}
+use Rattle.hem_shape.proofs.Subtrees.{child_in, in_early, child_in_child, parent_other}
 use Rattle.hem_shape.proofs.Ready.{empty_or, up_fired, down_fired}
 use Rattle.hem_shape.proofs.Takes.{child_fired, parent_fired}
 use Rattle.hem_shape.proofs.Phases.{fired_still, fired_now, fired_was}
@@ -61,7 +62,7 @@ request_first tree early o asker child_answers at shape can is = absurd (let bad
 -- an object at which a transaction fires first, below one at which it has fired, takes the parent's request
 pub from_above : (tree : Tree) → IsEarly tree → (o high : ℕ) (asker : Asker) (takes : Taking) (at : Progress) → HasShape tree at → CanTake tree o asker takes at → parent_of tree o ≡ Some high → at.fired o ≡ [] → at.fired high ≢ [] → (takes ≡ request) × (asker ≡ parent)
 from_above tree early o high (child c) request at shape can above first some =
-    let below = child_parent tree c o can.own in
+    let below = parent_is tree c o can.own in
     let within = in_early tree early high c ((shape.rising c can.there).within high some) in
     let one = early.early o high above in
     let two = early.early c o below in
@@ -76,7 +77,7 @@ from_above tree early o high asker child_answers at shape can above first some =
 pub from_below : (tree : Tree) → IsEarly tree → (o high : ℕ) (asker : Asker) (takes : Taking) (at : Progress) → HasShape tree at → CanTake tree high asker takes at → parent_of tree o ≡ Some high → at.fired high ≡ [] → at.fired o ≢ [] → (takes ≡ request) × (asker ≡ child o)
 from_below tree early o high (child c) request at shape can above first some =
     let within = (shape.rising c can.there).within o some in
-    (refl, ap child (sym (child_in_child tree early o c high above (child_parent tree c high can.own) within)))
+    (refl, ap child (sym (child_in_child tree early o c high above (parent_is tree c high can.own) within)))
 from_below tree early o high parent request at shape can above first some = absurd (some (shape.untouched high o can.there (child_in tree o high above)))
 from_below tree early o high processor request at shape can above first some = absurd (some (can.fired o))
 from_below tree early o high itself request at shape can above first some = absurd (some (can.fired o))

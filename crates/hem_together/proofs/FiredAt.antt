@@ -1,8 +1,9 @@
 -- The entries of a transaction at an object, with one entry more.
-use Rattle.std.proofs.Common.{◌≡◌, ◌≢◌, ℕ, ◌≤◌, Bool, true, false, cond, List, [], ◌∷◌, ◌++◌, length, map, refl, sym, ap, ◌∙◌, subst, arith, Some, inl, inr, ◌⊎◌}
+use Rattle.std.proofs.Common.{◌≡◌, ◌≢◌, ℕ, ◌≤◌, Bool, true, false, cond, List, [], ◌∷◌, ◌++◌, length, map, refl, sym, ap, ◌∙◌, subst, Some, inl, inr, ◌⊎◌}
 use Rattle.std.specs.Prelude.{◌==◌, filter, option_and_then, Ok}
 use Rattle.std.proofs.lemmas.List.{length-map}
 use Rattle.std.proofs.lemmas.List.Elements.{filter-append}
+use Rattle.std.proofs.lemmas.Bool.{eq-eqb}
 use Rattle.hem_base.specs.declared.ids.Firing.{Firing}
 use Rattle.hem_base.specs.declared.ids.Kind.{Kind}
 use Rattle.hem_syntax.specs.declared.rule.Rule.{Rule}
@@ -17,6 +18,7 @@ use Rattle.hem_trace.specs.Templates.{template_at}
 use Rattle.hem_law.proofs.Filters.{filter-map}
 use Rattle.hem_shape.proofs.RolesKept.{at_most_three}
 use Rattle.hem_together.specs.HaveRoles.{fired_at, HaveRoles}
+use Rattle.hem_rows.proofs.Choices.{not_same}
 
 -- a filter of a list with one element more
 filter_passes : (test : Entry → Bool) (xs : List Entry) (x : Entry) → test x ≡ true → filter test (xs ++ x ∷ []) ≡ filter test xs ++ x ∷ []
@@ -51,26 +53,20 @@ one_drops a b c xs x (inr (inr three)) = by_line (c x) refl
     by_line false is = ap (λ ys. filter a (filter b ys)) (filter_drops c xs x is)
     by_line true is = ap (λ ys. filter a (filter b ys)) (filter_passes c xs x is) ∙ by_object (filter c xs) (b x) refl
 
-same_number : (a b : ℕ) → a ≡ b → (a == b) ≡ true
-same_number a b is = grind arith
-
-other_number : (a b : ℕ) → a ≢ b → (a == b) ≡ false
-other_number a b is = grind arith
-
 -- the entry is of the transaction, at the object and on the line
 pub fired_here : (past : List Entry) (x : Entry) (l o t : ℕ) → x.event.firing.line.0 ≡ l → x.event.firing.object.0 ≡ o → x.number ≡ t → fired_at l o t (past ++ x ∷ []) ≡ fired_at l o t past ++ x ∷ []
 fired_here past x l o t line object number =
     all_pass (λ e. e.number == t) (λ e. e.event.firing.object.0 == o) (λ e. e.event.firing.line.0 == l) past x
-    (same_number x.event.firing.line.0 l line) (same_number x.event.firing.object.0 o object) (same_number x.number t number)
+    (eq-eqb x.event.firing.line.0 l line) (eq-eqb x.event.firing.object.0 o object) (eq-eqb x.number t number)
 
 -- or it is not
 pub fired_elsewhere : (past : List Entry) (x : Entry) (l o t : ℕ) → (x.event.firing.line.0 ≢ l) ⊎ ((x.event.firing.object.0 ≢ o) ⊎ (x.number ≢ t)) → fired_at l o t (past ++ x ∷ []) ≡ fired_at l o t past
 fired_elsewhere past x l o t differs = one_drops (λ e. e.number == t) (λ e. e.event.firing.object.0 == o) (λ e. e.event.firing.line.0 == l) past x (tests differs)
   where
     tests : (x.event.firing.line.0 ≢ l) ⊎ ((x.event.firing.object.0 ≢ o) ⊎ (x.number ≢ t)) → ((x.event.firing.line.0 == l) ≡ false) ⊎ (((x.event.firing.object.0 == o) ≡ false) ⊎ ((x.number == t) ≡ false))
-    tests (inl line) = inl (other_number x.event.firing.line.0 l line)
-    tests (inr (inl object)) = inr (inl (other_number x.event.firing.object.0 o object))
-    tests (inr (inr number)) = inr (inr (other_number x.number t number))
+    tests (inl line) = inl (not_same x.event.firing.line.0 l line)
+    tests (inr (inl object)) = inr (inl (not_same x.event.firing.object.0 o object))
+    tests (inr (inr number)) = inr (inr (not_same x.number t number))
 
 -- a firing's template
 pub template_is : (p : Protocol) (tree : Tree) (f : Firing) (kind : Kind) (rule : Rule) (t : TemplateName) → kind_of tree f.object.0 ≡ Some kind → rule_named p kind f.rule ≡ Some rule → template_of p kind rule ≡ Ok t → template_at p tree f ≡ Some t

@@ -23,7 +23,7 @@ use Rattle.hem_rows.proofs.Choices.{if_mapped}
 use Rattle.hem_locks.proofs.Counts.{changed, count-cons, count-changed, length-changed, request_first}
 use Rattle.hem_locks.proofs.Clean.{clean_by, is_held}
 use Rattle.hem_locks.proofs.Places.{up_requests_above}
-use Rattle.hem_locks.proofs.Still.{there, child_within}
+use Rattle.hem_locks.proofs.Still.{child_within}
 use Rattle.hem_locks.proofs.Allowed.{request_clean}
 use Rattle.hem_system.proofs.Changed.{is_same, not_same}
 use Rattle.hem_system.proofs.Takers.{parent_is}
@@ -31,6 +31,7 @@ use Rattle.hem_locks.proofs.LockNumbers.{held-few}
 use Rattle.hem_locks.proofs.Lines.{head_of, local_of, own_local, other_local}
 use Rattle.hem_windows.specs.Pending.{IsPending, IsOneOf, takes_of}
 use Rattle.hem_windows.specs.Answering.{IsAnswering}
+use Rattle.hem_tree.proofs.Lawful.{get_within}
 use Rattle.hem_windows.proofs.ByTemplate.{only_response, response_there, response_frees, down_held-keeps_up}
 use Rattle.hem_windows.proofs.Pending.{cell_next, KeepUp, still_works, same_template, child_named}
 
@@ -217,7 +218,7 @@ answering_falls p tree line f e high low lows lawful holds kept it answering =
     let upper = works.cell in
     let parent = works.parent in
     let early = (lawful_early tree lawful).early low o parent in
-    let lower = there line low (let inside = child_within tree low o parent in omega (arith, holds.size)) in
+    let lower = get_within line low (let inside = child_within tree low o parent in omega (arith, holds.size)) in
     let other : (low == o) ≡ false = not_same low o (λ same. absurd (omega (arith, same))) in
     let clean = lows_clean p tree line o (low ∷ lows) low lower.0 holds (head_free p tree line high o (low ∷ lows) answering) answering.works (inl refl) lower.1 in
     let edge = holds.edges.edge low o upper lower.0 parent works.there lower.1 in

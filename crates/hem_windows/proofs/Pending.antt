@@ -26,14 +26,15 @@ use Rattle.hem_locks.specs.Allowed.{HasTemplate}
 use Rattle.hem_locks.specs.Clean.{AreInLine}
 use Rattle.hem_rows.proofs.Choices.{if_mapped}
 use Rattle.hem_locks.proofs.Counts.{changed, length-changed}
-use Rattle.hem_locks.proofs.Lines.{get_map_each, local_of, own_local, other_local}
+use Rattle.hem_locks.proofs.Lines.{local_of, own_local, other_local}
 use Rattle.hem_locks.proofs.Places.{not_own_child}
 use Rattle.hem_windows.specs.Pending.{IsPending, IsOneOf, takes_of}
+use Rattle.hem_system.proofs.Own.{slice_get-map_each}
 use Rattle.hem_windows.proofs.Waiting.{IsWaiting, path_waits, waiting_fires, serving_keeps_up}
 
 -- a cell of the line after a firing
 pub cell_next : (tree : Tree) (f : Firing) (e : Effect) (line : Line) (k : ℕ) (cell : Cell) → slice_get line k ≡ Some cell → slice_get (line_after tree f e line) k ≡ Some (cell_after tree f e k cell)
-cell_next tree f e line k cell at = rw zero-add at (get_map_each (cell_after tree f e) 0 line k) ∙ ap (option_map (cell_after tree f e k)) at
+cell_next tree f e line k cell at = rw zero-add at (slice_get-map_each (cell_after tree f e) 0 line k) ∙ ap (option_map (cell_after tree f e k)) at
 
 -- each object of a list keeps its uplock
 abbrev pub KeepUp : Tree → Line → Firing → Effect → List ℕ → Type 0

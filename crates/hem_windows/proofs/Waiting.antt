@@ -21,10 +21,10 @@ use Rattle.hem_locks.specs.Edges.{one_if, count, is_kid, for_kid, held, CellsHol
 use Rattle.hem_locks.specs.Clean.{WorksFor, AreInLine}
 use Rattle.hem_locks.proofs.Clean.{is_held}
 use Rattle.hem_locks.proofs.LockNumbers.{held-few}
-use Rattle.hem_locks.proofs.Still.{there}
 use Rattle.hem_locks.proofs.Allowed.{waiting_serves}
 use Rattle.hem_locks.proofs.Laws.{parent_there}
 use Rattle.hem_windows.specs.Pending.{IsPending, IsOneOf}
+use Rattle.hem_tree.proofs.Lawful.{get_within}
 
 -- an object waits: its uplock is held, and no response is under way to it
 pub record IsWaiting (p : Protocol) (line : Line) (o : ℕ) : Type 0 where
@@ -52,7 +52,7 @@ top_waits p tree line top lows lawful holds pending = by_parent (parent_of tree 
     by_parent (Some high) is =
         let early = (lawful_early tree lawful).early top high is in
         let inside = slice_get_within line top pending.cell pending.there in
-        let upper = there line high (omega arith) in
+        let upper = get_within line high (omega arith) in
         let it = waiting_by p (place_among tree high top) upper.0 pending.cell (holds.edges.edge top high upper.0 pending.cell is upper.1 pending.there) (let asks = pending.asks in omega arith) in
         let lock = is_held pending.cell.local.up it.0 in
         record { cell = pending.cell; at = pending.there; lock = lock.0; up = lock.1; none = it.1 }

@@ -39,10 +39,10 @@ template_is : (p : Protocol) (tree : Tree) (line : Line) (f : Firing) (e : Effec
 template_is p tree line f e it = rw (it.kind_is, it.named, it.has_template) refl
 
 -- one firing more
-filter_map-some : {A B : Type 0} (g : A → Option B) (x : A) (xs : List A) (y : B) → g x ≡ Some y → filter_map g (x ∷ xs) ≡ y ∷ filter_map g xs
+pub filter_map-some : {A B : Type 0} (g : A → Option B) (x : A) (xs : List A) (y : B) → g x ≡ Some y → filter_map g (x ∷ xs) ≡ y ∷ filter_map g xs
 filter_map-some g x xs y is = rw is refl
 
-filter_map-none : {A B : Type 0} (g : A → Option B) (x : A) (xs : List A) → g x ≡ None → filter_map g (x ∷ xs) ≡ filter_map g xs
+pub filter_map-none : {A B : Type 0} (g : A → Option B) (x : A) (xs : List A) → g x ≡ None → filter_map g (x ∷ xs) ≡ filter_map g xs
 filter_map-none g x xs is = rw is refl
 
 -- what an object that waits fires, by its downlock
