@@ -90,7 +90,7 @@ kids_all-exact set local small =
     ∙ all-occur (λ s. has set (status s)) local.dir small
 
 -- one occurs that passes a test where some entry does
-any-not : (f : ℕ → Bool) (xs : List ℕ) → list_any f xs ≡ not (list_all (λ s. not (f s)) xs)
+pub any-not : (f : ℕ → Bool) (xs : List ℕ) → list_any f xs ≡ not (list_all (λ s. not (f s)) xs)
 any-not f [] = refl
 any-not f (x ∷ xs) = rw (any-not f xs) (either (f x) (list_all (λ s. not (f s)) xs))
   where
@@ -116,7 +116,7 @@ any-occur t dir small =
     apart true b = refl
     apart false b = refl
 
-any-mapped : (f : Status8 → Bool) (xs : List ℕ) → list_any f (map status xs) ≡ list_any (λ s. f (status s)) xs
+pub any-mapped : (f : Status8 → Bool) (xs : List ℕ) → list_any f (map status xs) ≡ list_any (λ s. f (status s)) xs
 any-mapped f [] = refl
 any-mapped f (x ∷ xs) = ap (λ b. f (status x) || b) (any-mapped f xs)
 

@@ -7,3 +7,9 @@ pub mod DownwardFrames
 pub mod TemplateForms
 pub mod UpwardMoves
 pub mod PartnersKeep
+mod Split
+mod BitSets
+mod FieldLists
+mod LeastState
+mod Breaches
+pub mod Turns

@@ -2,3 +2,9 @@ pub mod Abstract
 pub mod Partners
 pub mod Stable
 pub mod Exact
+pub mod Named
+pub mod First
+pub mod Parts
+pub mod FieldSets
+pub mod Search
+pub mod Places

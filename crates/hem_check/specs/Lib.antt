@@ -1,1 +1,3 @@
 pub mod Discipline
+pub mod Refused
+pub mod Findings

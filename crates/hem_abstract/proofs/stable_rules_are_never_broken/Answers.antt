@@ -1,5 +1,0 @@
-use Rattle.hem_abstract.proofs.StableNever.{stable-never}
-use Rattle.hem_abstract.proofs.stable_rules_are_never_broken.Goals as goal
-
-pub returns : goal.returns
-returns c = stable-never

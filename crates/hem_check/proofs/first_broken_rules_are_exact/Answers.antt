@@ -1,5 +1,0 @@
-use Rattle.hem_check.proofs.Clauses.{exact}
-use Rattle.hem_check.proofs.first_broken_rules_are_exact.Goals as goal
-
-pub returns : goal.returns
-returns c = exact
