@@ -2,6 +2,8 @@
 //! each function does nothing, and its contract is a law.
 #![tactic(auto)]
 
+mod objects;
+
 ghost use Rattle.std.specs.Prelude.{◌==◌, ◌≡◌, ℕ, Bool, not, ◌&&◌, List, Some, map, slice_get};
 ghost use Rattle.hem_base.specs.declared.ids.Kind.{Kind};
 ghost use Rattle.hem_base.specs.declared.ids.Firing.{Firing};
@@ -29,6 +31,8 @@ ghost use Rattle.hem_numbered.specs.Numbers.{Numbers, numbers_after, AreNumbers}
 ghost use Rattle.hem_numbered.specs.Firings.{HasNumber, IsFiring, IsNumbered};
 ghost use Rattle.hem_numbered.specs.Histories.{EndsWhereUp};
 ghost use Rattle.hem_numbered.specs.Grouped.{RunsAdjacent};
+
+pub use objects::{transactions_go_one_way, transactions_have_roles, transactions_stand_together};
 
 /// A firing takes only messages of its own number, and frees only locks of its own number.
 pub fn firings_take_their_own_number()

@@ -19,10 +19,10 @@ use Rattle.hem_law.proofs.Precedence.{precedence-ranks}
 use Rattle.hem_law.proofs.Reordered.{entries-inside}
 use Rattle.hem_numbered.proofs.NormalRows.{normal_rows as rows_by_number}
 use Rattle.hem_orderly.proofs.Orderly.{history_normal, history_serial}
-use Rattle.hem_together.specs.Together.{StandTogether, StandAtMostThrice, AreConnected}
-use Rattle.hem_together.specs.HaveRoles.{GoOneWay}
-use Rattle.hem_together.proofs.OneWay.{one_way}
-use Rattle.hem_together.proofs.Joined.{stand_together, are_connected, stand_thrice}
+use Rattle.hem_numbered.specs.Together.{StandTogether, StandAtMostThrice, AreConnected}
+use Rattle.hem_numbered.specs.HaveRoles.{GoOneWay}
+use Rattle.hem_numbered.proofs.OneWay.{one_way}
+use Rattle.hem_numbered.proofs.Joined.{stand_together, are_connected, stand_thrice}
 use Rattle.hem_check.proofs.Clauses.{templated, stable}
 use Rattle.hem_serial.specs.Histories.{IsHistory, entries, printed_blocks, normal_entries, normal_order, normal_rows}
 

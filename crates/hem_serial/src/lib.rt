@@ -11,8 +11,8 @@ ghost use Rattle.hem_system.specs.State.{State, Runs, start};
 ghost use Rattle.hem_trace.specs.Blocks.{IsSerial, SameFirings, firings_of};
 ghost use Rattle.hem_locks.specs.Edges.{AllLocksHold};
 ghost use Rattle.hem_law.specs.Orders.{stands_in, is_ahead, PrecedenceRanks};
-ghost use Rattle.hem_together.specs.Together.{StandTogether, StandAtMostThrice, AreConnected};
-ghost use Rattle.hem_together.specs.HaveRoles.{GoOneWay};
+ghost use Rattle.hem_numbered.specs.Together.{StandTogether, StandAtMostThrice, AreConnected};
+ghost use Rattle.hem_numbered.specs.HaveRoles.{GoOneWay};
 ghost use Rattle.hem_bound.specs.Starts.{starts};
 ghost use Rattle.hem_serial.specs.Histories.{IsHistory, ListsAreShort, entries, printed_blocks, normal_entries, normal_order, normal_rows};
 

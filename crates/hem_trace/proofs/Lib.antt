@@ -1,6 +1,4 @@
-pub mod OneStepEvents
-pub mod OneStepOrder
-pub mod OneStepSerial
+pub mod First
 pub mod FirstTaken
 pub mod Waiting
 pub mod Senders

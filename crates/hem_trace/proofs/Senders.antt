@@ -18,8 +18,7 @@ use Rattle.hem_system.proofs.Own.{Came, came}
 use Rattle.hem_trace.specs.History.{Channel, events, channels_taken, takes_from, sends_to, places_from, sender}
 use Rattle.hem_trace.specs.Tags.{Tags, no_tags, tags_after, number_at, numbers_by_tags, numbers_of}
 use Rattle.hem_trace.specs.Laws.{ChannelsAreEmpty, AreNumbersBySenders}
-use Rattle.hem_trace.proofs.OneStepOrder.{number-own}
-use Rattle.hem_trace.proofs.OneStepEvents.{events-step}
+use Rattle.hem_trace.proofs.First.{events-step, number-own}
 use Rattle.hem_trace.proofs.FirstTaken.{first-taken}
 use Rattle.hem_trace.proofs.Waiting.{AreWaiting, waiting-next, first-waiting, slid, length-next}
 use Rattle.hem_invariants.proofs.Choices.{both, if_some}

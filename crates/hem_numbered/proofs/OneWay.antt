@@ -15,8 +15,8 @@ use Rattle.hem_rows.specs.Rows.{AllHaveTemplates}
 use Rattle.hem_rows.proofs.Choices.{both}
 use Rattle.hem_law.proofs.Rows.{either}
 use Rattle.hem_shape.specs.Roles.{begins_role, follows, goes_on, is_role}
-use Rattle.hem_together.specs.HaveRoles.{asks_above, serves_above, GoOneWay}
-use Rattle.hem_together.proofs.Joined.{history_roles}
+use Rattle.hem_numbered.specs.HaveRoles.{asks_above, serves_above, GoOneWay}
+use Rattle.hem_numbered.proofs.Joined.{history_roles}
 
 -- what follows in a role takes an answer
 follower : (t s : TemplateName) → follows t s ≡ true → begins_role s ≡ false

@@ -17,7 +17,7 @@ use Rattle.hem_template.specs.Waiting.{template_if}
 use Rattle.hem_trace.specs.Templates.{template_at}
 use Rattle.hem_law.proofs.Filters.{filter-map}
 use Rattle.hem_shape.proofs.RolesKept.{at_most_three}
-use Rattle.hem_together.specs.HaveRoles.{fired_at, HaveRoles}
+use Rattle.hem_numbered.specs.HaveRoles.{fired_at, HaveRoles}
 use Rattle.hem_rows.proofs.Choices.{not_same}
 
 -- a filter of a list with one element more
