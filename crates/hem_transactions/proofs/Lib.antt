@@ -1,0 +1,9 @@
+pub mod ChildrenMet
+pub mod Awaited
+pub mod FirstTaken
+pub mod Lanes
+pub mod OnLines
+pub mod Steps
+pub mod Going
+pub mod FewFirings
+pub mod Stops
