@@ -1,0 +1,12 @@
+pub mod Members
+pub mod Turns
+pub mod Printed
+pub mod Normal
+pub mod Starts
+pub mod Numbering
+pub mod Histories
+pub mod Out
+pub mod Links
+pub mod Graph
+pub mod Ready
+pub mod Last

@@ -1,0 +1,23 @@
+//! The blocks of a history in the printed order, found in near-linear time with counts of open predecessors.
+#![tactic(auto)]
+
+mod blocks;
+mod graph;
+mod known;
+mod last;
+mod laws;
+mod lists;
+mod member;
+mod normal;
+mod numbered;
+mod order;
+mod ready;
+mod regrouping;
+mod replayed;
+mod starts;
+mod tops;
+mod upward;
+
+pub use laws::{neighbours_give_the_order, numbered_firings_give_the_printed_blocks};
+pub use regrouping::{RegroupFault, regroup};
+pub use replayed::{Regrouped, replay_and_regroup};

@@ -1,0 +1,101 @@
+//! The normal order of a history's firings.
+
+ghost use Rattle.std.specs.Prelude.{cond, ◌∷◌, ◌≡◌, ◌≢◌, ℕ, ◌+◌, ◌<◌, nat_lt, ◌&&◌, [], ◌++◌, length, None, Some, slice_get, slice_index_or, IfOk, OnOk};
+ghost use Rattle.hem_regroup.specs.Normal.{member_at, shown, kept, top_from, normal_members, AreBelow, IsPlacing};
+
+use crate::lists::{append, empty_lists};
+use crate::member::Member;
+use crate::numbered::Numbered;
+use crate::tops::{Top, all_tops, place_of};
+use hem_base::{List, OutOfMemory};
+use std::alloc::Global;
+
+/// The member of a numbered firing.
+fn member_at(x: Numbered) -> Member
+    ensures { result ≡ member_at x }
+{
+    Member {
+        number: x.number,
+        firing: x.firing,
+    }
+}
+
+/// Whether the firing at a place is moved to the anchor of its transaction.
+fn is_moved(anchor: usize, place: usize, x: Numbered) -> bool
+    ensures { result ≡ (x.upward && nat_lt place anchor) }
+{
+    x.upward && place < anchor
+}
+
+/// Puts a member after the others, and before it, at an anchor, those that were held back.
+fn show(
+    members: &mut Vec<Member>,
+    held: &[Member],
+    is_anchor: bool,
+    member: Member,
+) -> Result<(), OutOfMemory>
+    ensures { OnOk result (members.new.items ≡ members.old.items ++ (cond is_anchor held.now [] ++ member ∷ [])) }
+{
+    if is_anchor {
+        members.extend_from_slice(held)?;
+    }
+    members.push(member)?;
+    Ok(())
+}
+
+/// Holds the firing at a place back, or puts it after the others.
+fn place_one(
+    members: &mut Vec<Member>,
+    held: &mut List<List<Member>>,
+    anchor: usize,
+    place: usize,
+    x: Numbered,
+) -> Result<(), OutOfMemory>
+    requires { x.number < length held.old }
+    ensures members { OnOk result (members.new.items ≡ members.old.items ++ shown anchor place x (slice_index_or held.old x.number [])) }
+    ensures there { OnOk result (slice_get held.new x.number ≡ Some (slice_index_or held.old x.number [] ++ kept anchor place x)) }
+    ensures others { OnOk result ((t : ℕ) → t ≢ x.number → slice_get held.new t ≡ slice_get held.old t) }
+    ensures size { length held.new ≡ length held.old }
+{
+    if is_moved(anchor, place, x) {
+        append(held, x.number, member_at(x))
+    } else {
+        let those = &held.as_slice()[x.number];
+        show(members, those.as_slice(), place == anchor, member_at(x))
+    }
+}
+
+/// Places the firing at a place.
+fn place_next(
+    members: &mut Vec<Member>,
+    held: &mut List<List<Member>>,
+    tops: &[Option<Top>],
+    all: &[Numbered],
+    place: usize,
+) -> Result<(), OutOfMemory>
+    requires within { place < length all.now }
+    requires below { AreBelow (length all.now) all.now }
+    requires size { length tops.now ≡ length all.now }
+    requires tops { (n : ℕ) → n < length all.now → slice_index_or tops.now n None ≡ top_from 0 all.now n }
+    requires placing { IsPlacing all.now place members.old.items held.old }
+    ensures { OnOk result (IsPlacing all.now (place + 1) members.new.items held.new) }
+{
+    let x = all[place];
+    let anchor = place_of(tops[x.number]);
+    place_one(members, held, anchor, place, x)
+}
+
+/// The firings in their normal order: each upward request that stands before its transaction's anchor is moved to just
+/// before it.
+pub(crate) fn normal_order(alloc: Global, all: &[Numbered]) -> Result<Vec<Member>, OutOfMemory>
+    requires { AreBelow (length all.now) all.now }
+    ensures { IfOk result (λ members. members.items ≡ normal_members all.now) }
+{
+    let tops = all_tops(alloc, all)?;
+    let mut held = empty_lists(alloc, all.len())?;
+    let mut members = Vec::new(alloc);
+    for place in 0..all.len() {
+        place_next(&mut members, &mut held, tops.as_slice(), all, place)?;
+    }
+    Ok(members)
+}

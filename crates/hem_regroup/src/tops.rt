@@ -1,0 +1,77 @@
+//! The highest object of each transaction.
+
+ghost use Rattle.std.specs.Prelude.{◌≡◌, ℕ, ◌<◌, length, None, Some, slice_index_or, slice_set, IfOk};
+ghost use Rattle.hem_regroup.specs.Normal.{is_above, upper, top_at, top_from, place_of, AreBelow};
+
+use crate::numbered::Numbered;
+use hem_base::OutOfMemory;
+use std::alloc::Global;
+
+/// Where the first of a transaction's firings at its highest object stands.
+#[derive(Clone, Copy, Debug, PartialEq, Eq)]
+pub(crate) struct Top {
+    level: u32,
+    object: u32,
+    place: usize,
+}
+
+/// Whether one stands at an object of less level, or of the same level and of less number.
+fn is_above(a: Top, b: Top) -> bool
+    ensures { result ≡ is_above a b }
+{
+    a.level < b.level || (a.level == b.level && a.object < b.object)
+}
+
+/// The one above of two, and of two at the same object the first.
+fn upper(later: Option<Top>, first: Top) -> Top
+    ensures { result ≡ upper later first }
+{
+    match later {
+        Some(top) if is_above(top, first) => top,
+        _ => first,
+    }
+}
+
+/// Where a firing at a place stands.
+fn top_at(place: usize, x: Numbered) -> Top
+    ensures { result ≡ top_at place x }
+{
+    Top {
+        level: x.level,
+        object: x.firing.object.0,
+        place,
+    }
+}
+
+/// The place of a top, 0 without one.
+pub(crate) fn place_of(top: Option<Top>) -> usize
+    ensures { result ≡ place_of top }
+{
+    match top {
+        Some(top) => top.place,
+        None => 0,
+    }
+}
+
+/// Puts the firing at a place before those that stand later.
+fn raise(tops: &mut Vec<Option<Top>>, place: usize, x: Numbered)
+    requires { x.number < length tops.old.items }
+    ensures { tops.new.items ≡ slice_set tops.old.items x.number (Some (upper (slice_index_or tops.old.items x.number None) (top_at place x))) }
+{
+    tops[x.number] = Some(upper(tops[x.number], top_at(place, x)));
+}
+
+/// Of each transaction where the first of its firings at its highest object stands.
+pub(crate) fn all_tops(alloc: Global, all: &[Numbered]) -> Result<Vec<Option<Top>>, OutOfMemory>
+    requires { AreBelow (length all.now) all.now }
+    ensures size { IfOk result (λ tops. length tops.items ≡ length all.now) }
+    ensures tops { IfOk result (λ tops. (n : ℕ) → n < length all.now → slice_index_or tops.items n None ≡ top_from 0 all.now n) }
+{
+    let count = all.len();
+    let mut tops = vec![in alloc; None; count]?;
+    for back in 0..count {
+        let place = count - 1 - back;
+        raise(&mut tops, place, all[place]);
+    }
+    Ok(tops)
+}
