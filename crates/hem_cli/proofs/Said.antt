@@ -4,11 +4,14 @@ use Rattle.std.proofs.lemmas.List.{length-replicate}
 use Rattle.std.specs.Prelude.{Result, Ok, Err, IfOk, replicate}
 use Rattle.hem_base.specs.declared.outside.OutOfMemory.{OutOfMemory}
 use Rattle.hem_io.specs.Reading.{ReadsAll, TakesFront}
-use Rattle.hem_cli.specs.declared.answer.Reply.{Reply}
+use Rattle.hem_cli.specs.declared.reply.Reply.{Reply}
 use Rattle.hem_cli.specs.declared.status.Status.{Status}
 use Rattle.hem_cli.specs.declared.status.Status.TheVariants.{ReadFault}
-use Rattle.hem_cli.specs.Answer.{Answer, IsGood}
+use Rattle.hem_cli.specs.Answer.{Answer, IsJobAnswer, most_bytes}
+use Rattle.hem_cli.specs.Job.{AsksFor}
+use Rattle.hem_cli.specs.declared.job.Job.{Job}
 use Rattle.hem_cli.specs.Outcome.{Says, OfBytes, IsAfterReading}
+use Rattle.hem_cli.proofs.Replies.{answered, job_after}
 
 -- where one byte more than n was taken, more than n bytes were left
 pub past : (old new : Option (List ℕ)) (n : ℕ) (A : Type 0) (P : List ℕ → Type 0) → A → ((bytes : List ℕ) → n < length bytes → P bytes)
@@ -34,9 +37,11 @@ says_after : (words : List (List ℕ)) (left : Option (List ℕ)) (before now : 
 says_after words left before now ReadFault text after answer = absurd after
 says_after words left before now status text after answer = answer
 
--- a reply to the bytes that were read says the answer to what was left
-pub read_says : (words : List (List ℕ)) (left new : Option (List ℕ)) (before now : ℕ) (bytes : List ℕ) (r : Result Reply OutOfMemory) → IsGood words → ReadsAll left new bytes
-    → IfOk r (λ x. (w : List (List ℕ)) → IsGood w → Answer w bytes x.status x.text.items) → IfOk r (λ x. IsAfterReading x.status) → IfOk r (λ x. Says words left before now x.status x.text.items)
-read_says words left new before now bytes (Ok x) good read answers after =
-    says_after words left before now x.status x.text.items after (of_read left new bytes (λ bs. Answer words bs x.status x.text.items) read (answers words good))
-read_says words left new before now bytes (Err e) good read answers after = tt
+-- a job's reply to the bytes that were read says the answer to what was left
+pub read_says : (words : List (List ℕ)) (job : Job) (left new : Option (List ℕ)) (before now : ℕ) (bytes : List ℕ) (r : Result Reply OutOfMemory) → AsksFor words job → length bytes ≤ most_bytes → ReadsAll left new bytes
+    → IfOk r (λ x. IsJobAnswer job bytes x.status x.text.items) → IfOk r (λ x. Says words left before now x.status x.text.items)
+read_says words job left new before now bytes (Ok x) asks few read told =
+    says_after words left before now x.status x.text.items
+    (job_after job bytes x.status x.text.items told)
+    (of_read left new bytes (λ bs. Answer words bs x.status x.text.items) read (answered words job bytes x.status x.text.items asks few told))
+read_says words job left new before now bytes (Err e) asks few read told = tt

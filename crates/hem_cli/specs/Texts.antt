@@ -1,6 +1,5 @@
 -- The texts of faults, as bytes, and the text of a history that runs.
-use Rattle.std.specs.Prelude.{List, [], ◌++◌, cond, codes, decimal}
-use Rattle.hem_base.specs.declared.ids.Firing.{Firing}
+use Rattle.std.specs.Prelude.{List, ◌++◌, codes, decimal}
 use Rattle.hem_text.specs.declared.text.Place.{Place}
 use Rattle.hem_text.specs.declared.text.Cause.{Cause}
 use Rattle.hem_text.specs.declared.text.Cause.TheVariants as cause
@@ -11,8 +10,7 @@ use Rattle.hem_text.specs.declared.reader.TextFault.{TextFault}
 use Rattle.hem_syntax.specs.Protocol.{Protocol, Text}
 use Rattle.hem_tree.specs.Tree.{Tree}
 use Rattle.hem_system.specs.State.{State}
-use Rattle.hem_trace.specs.Order.{entries_of, printed}
-use Rattle.hem_trace.specs.OneStep.{is_one_step}
+use Rattle.hem_trace.specs.Blocks.{Block}
 use Rattle.hem_report.specs.BlocksText.{blocks_text}
 use Rattle.hem_report.specs.StateText.{word_of, state_text}
 
@@ -48,10 +46,6 @@ fault_text f = codes "text " ++ place_text f.place ++ codes " " ++ cause_text f.
 abbrev pub setup_text : SetupFault → Text
 setup_text f = codes "setup " ++ place_text f.place ++ codes " " ++ rule_text f.cause ++ codes "\n"
 
--- the blocks in the printed order, where every rule of the protocol answers its processor at once
-abbrev pub grouped_blocks : Protocol → Tree → State → List Firing → Text
-grouped_blocks p tree start h = cond (is_one_step p) (blocks_text p (printed (entries_of p tree start h))) []
-
--- a history that runs from the start to the end: the word, the blocks, and the end
-abbrev pub grouped_text : Protocol → Tree → State → List Firing → State → Text
-grouped_text p tree start h end = word_of end ++ grouped_blocks p tree start h ++ state_text p tree end
+-- a history that runs to the end: the word, the blocks, and the end
+abbrev pub grouped_text : Protocol → Tree → List Block → State → Text
+grouped_text p tree blocks end = word_of end ++ blocks_text p blocks ++ state_text p tree end

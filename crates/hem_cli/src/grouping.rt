@@ -1,61 +1,106 @@
-//! The texts of a document whose history runs, or stops.
+//! The job `group`: a history by transactions.
 
-ghost use Rattle.std.specs.Prelude.{◌≡◌, ◌++◌, IfOk, string_bytes};
-ghost use Rattle.hem_system.specs.State.{State, Runs};
-ghost use Rattle.hem_report.specs.Texts.{illegal_text};
-ghost use Rattle.hem_report.specs.StateText.{state_text};
-ghost use Rattle.hem_cli.specs.Texts.{grouped_blocks, grouped_text};
+ghost use Rattle.std.specs.Prelude.{◌≡◌, ◌≤◌, List, length, IfOk};
+ghost use Rattle.hem_base.specs.declared.ids.Firing.{Firing};
+ghost use Rattle.hem_check.specs.Discipline.{IsDisciplined};
+ghost use Rattle.hem_document.specs.declared.documents.WorkDocument.{WorkDocument};
+ghost use Rattle.hem_document.specs.SetUp.{document_of, tree_in, work_in, IsSetUp};
+ghost use Rattle.hem_cli.specs.Answer.{most_bytes, IsRepliedTo, IsGroupAnswer};
 
+use crate::Status;
+use crate::fault_texts::setup_text;
+use crate::grouped_texts::{grouped_text, stopped_text};
+use crate::reply::{Reply, refused, reply_with, unread};
 use hem_base::{Firing, OutOfMemory};
-use hem_report::{blocks_text, illegal_text, state_text, word_text};
-use hem_syntax::Protocol;
-use hem_system::System;
-use hem_trace::{is_one_step, singles};
-use hem_tree::Tree;
+use hem_check::{Accepted, check};
+use hem_document::{Document, Lawful, WorkDocument, read_document, set_up};
+use hem_regroup::{Regrouped, replay_and_regroup};
+use hem_system::ReplayFault;
+use hem_text::TextError;
+use hem_tree::{RawTree, SetupError};
+use hem_work::RawWork;
 use std::alloc::Global;
+use std::thread::Threads;
 
-/// The blocks of a history that runs, where every rule of the protocol answers its processor at once: then each firing is
-/// a block of its own, in the order of the history.
-fn grouped_blocks(alloc: Global, p: &Protocol, history: &[Firing]) -> Result<String, OutOfMemory>
-    ensures { IfOk result (λ s. (tree : Tree) (start : State) (end : State) → Runs p.now tree start history.now end → string_bytes s ≡ grouped_blocks p.now tree start history.now) }
-{
-    if !is_one_step(p) {
-        return Ok(String::new(alloc));
-    }
-    let blocks = singles(alloc, history)?;
-    blocks_text(alloc, p, &blocks)
-}
-
-/// The text of a history that runs and leads to the state: the word, the blocks and the state.
-pub(crate) fn grouped_text(
+/// The answer to a history over a disciplined protocol, a lawful tree and a lawful work.
+fn replayed<R: Threads + Sync>(
+    rt: &R,
     alloc: Global,
-    p: &Protocol,
-    tree: &Tree,
+    accepted: &Accepted,
+    lawful: &Lawful,
     history: &[Firing],
-    end: &System,
-) -> Result<String, OutOfMemory>
-    ensures { IfOk result (λ s. (start : State) → Runs p.now tree.now start history.now end.now → string_bytes s ≡ grouped_text p.now tree.now start history.now end.now) }
+) -> Result<Reply, OutOfMemory>
+    ensures { IfOk result (λ r. (setup : WorkDocument) → setup.protocol ≡ accepted.now → lawful.now.tree ≡ tree_in setup → lawful.now.work ≡ work_in setup → IsSetUp setup
+        → IsRepliedTo (record { setup = setup; history = history.now }) r.status r.text.items) }
 {
-    let mut text = String::from_str(alloc, word_text(end))?;
-    let blocks = grouped_blocks(alloc, p, history)?;
-    text.push_str(&blocks)?;
-    let state = state_text(alloc, p, tree, end)?;
-    text.push_str(&state)?;
-    Ok(text)
+    let p = accepted.protocol();
+    let tree = &lawful.tree;
+    match replay_and_regroup(rt, alloc, accepted, tree, &lawful.work, history) {
+        Ok(Regrouped { end, blocks }) => {
+            let text = grouped_text(alloc, p, tree, &blocks, &end)?;
+            Ok(reply_with(Status::Done, text))
+        }
+        Err(ReplayFault::Illegal { place, state }) => {
+            let text = stopped_text(alloc, p, tree, place, &state)?;
+            Ok(reply_with(Status::Illegal, text))
+        }
+        Err(ReplayFault::OutOfMemory) => Err(OutOfMemory),
+    }
 }
 
-/// The text of a history with a firing that isn't possible: its place, and the state before it.
-pub(crate) fn stopped_text(
+/// The answer to a document with a disciplined protocol.
+fn accepted_reply<R: Threads + Sync>(
+    rt: &R,
     alloc: Global,
-    p: &Protocol,
-    tree: &Tree,
-    place: usize,
-    before: &System,
-) -> Result<String, OutOfMemory>
-    ensures { IfOk result (λ s. string_bytes s ≡ illegal_text place ++ state_text p.now tree.now before.now) }
+    accepted: &Accepted,
+    tree: &RawTree,
+    work: &RawWork,
+    history: &[Firing],
+) -> Result<Reply, OutOfMemory>
+    ensures { IfOk result (λ r. IsRepliedTo (record { setup = document_of accepted.now tree.now work.now; history = history.now }) r.status r.text.items) }
 {
-    let mut text = illegal_text(alloc, place)?;
-    let state = state_text(alloc, p, tree, before)?;
-    text.push_str(&state)?;
-    Ok(text)
+    match set_up(alloc, accepted.protocol(), tree, work) {
+        Ok(lawful) => replayed(rt, alloc, accepted, &lawful, history),
+        Err(SetupError::Setup(fault)) => {
+            let text = setup_text(alloc, fault)?;
+            Ok(reply_with(Status::Setup, text))
+        }
+        Err(SetupError::OutOfMemory) => Err(OutOfMemory),
+    }
+}
+
+/// The answer to a document.
+fn document_reply<R: Threads + Sync>(
+    rt: &R,
+    alloc: Global,
+    document: Document,
+) -> Result<Reply, OutOfMemory>
+    ensures { IfOk result (λ r. IsRepliedTo document r.status r.text.items) }
+{
+    let Document { setup, history } = document;
+    let WorkDocument {
+        protocol,
+        tree,
+        work,
+    } = setup;
+    match check(protocol) {
+        Ok(accepted) => accepted_reply(rt, alloc, &accepted, &tree, &work, history.as_slice()),
+        Err(refusal) => refused(alloc, &refusal),
+    }
+}
+
+/// The answer of `group` to a whole input.
+pub(crate) fn grouped<R: Threads + Sync>(
+    rt: &R,
+    alloc: Global,
+    bytes: &[u8],
+) -> Result<Reply, OutOfMemory>
+    requires { length bytes.now ≤ most_bytes }
+    ensures { IfOk result (λ r. IsGroupAnswer bytes.now r.status r.text.items) }
+{
+    match read_document(alloc, bytes) {
+        Ok(document) => document_reply(rt, alloc, document),
+        Err(TextError::Text(fault)) => unread(alloc, fault),
+        Err(TextError::OutOfMemory) => Err(OutOfMemory),
+    }
 }

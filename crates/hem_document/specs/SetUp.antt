@@ -1,14 +1,21 @@
 -- Whether a document's tree and work are lawful, and the first rule that they break.
-use Rattle.std.specs.Prelude.{◌≡◌, ◌⊎◌, Some, None, length}
+use Rattle.std.specs.Prelude.{◌≡◌, ◌⊎◌, List, Some, None, length}
+use Rattle.hem_syntax.specs.Protocol.{Protocol}
+use Rattle.hem_tree.specs.declared.raw.RawNode.{RawNode}
 use Rattle.hem_tree.specs.declared.setup.SetupFault.{SetupFault as Fault}
 use Rattle.hem_tree.specs.declared.setup.SetupError.{SetupError}
 use Rattle.hem_tree.specs.declared.setup.SetupError.TheVariants.{Setup, OutOfMemory}
 use Rattle.hem_tree.specs.Tree.{Tree, IsLawful}
 use Rattle.hem_tree.specs.Raw.{tree_of}
 use Rattle.hem_tree.specs.Building.{IsTreeFault}
+use Rattle.hem_work.specs.declared.raw.RawWork.{RawWork}
 use Rattle.hem_work.specs.Work.{Work}
 use Rattle.hem_work.specs.Building.{first_fault, work_of}
 use Rattle.hem_document.specs.declared.documents.WorkDocument.{WorkDocument}
+
+-- a protocol, a tree and a work as one document
+abbrev pub document_of : Protocol → List RawNode → RawWork → WorkDocument
+document_of protocol tree work = record { protocol = protocol; tree = tree; work = work }
 
 -- the tree of objects of a document
 abbrev pub tree_in : WorkDocument → Tree

@@ -1,3 +1,4 @@
 pub mod JoinedTexts
 pub mod StateTexts
+pub mod StatusSets
 pub mod Examples

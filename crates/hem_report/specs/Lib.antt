@@ -3,3 +3,5 @@ pub mod BlocksText
 pub mod LocalText
 pub mod StateText
 pub mod Places
+pub mod AcceptedText
+pub mod RefusalText

@@ -1,6 +1,8 @@
-//! The texts of answers: blocks, states, and which firing isn't possible.
+//! The texts of answers: blocks, states, which firing isn't possible, and whether a protocol is accepted.
 #![tactic(auto)]
 
+mod abstracts;
+mod accepted;
 mod blocks;
 mod fields;
 mod firings;
@@ -8,8 +10,11 @@ mod lists;
 mod locals;
 mod locks;
 mod names;
+mod refusals;
 mod states;
 
+pub use accepted::accepted_text;
 pub use blocks::blocks_text;
 pub use firings::illegal_text;
+pub use refusals::refusal_text;
 pub use states::{state_text, word_text};

@@ -8,6 +8,16 @@ use hem_base::{Kind, Message, MsgId, OutOfMemory, RuleId, Status8};
 use hem_output::Output;
 use hem_syntax::Protocol;
 
+/// Appends the name of a protocol.
+pub(crate) fn write_protocol_name(output: &mut Output, p: &Protocol) -> Result<(), OutOfMemory>
+    ensures { OnOk result (output.new ≡ output.old ++ p.now.name) }
+{
+    // This call says that the protocol is lawful, so that its name is a word.
+    let _root = p.part(Kind::Root);
+    let name = p.name();
+    output.name(name)
+}
+
 /// Appends the name of a status.
 pub(crate) fn write_status(
     output: &mut Output,

@@ -1,0 +1,39 @@
+//! The job `check`: whether a protocol is disciplined.
+
+ghost use Rattle.std.specs.Prelude.{◌≡◌, ◌≤◌, length, IfOk};
+ghost use Rattle.hem_cli.specs.Answer.{most_bytes, IsVerdict, IsCheckAnswer};
+
+use crate::Status;
+use crate::reply::{Reply, refused, reply_with, unread};
+use hem_base::OutOfMemory;
+use hem_check::check;
+use hem_document::read_protocol_document;
+use hem_report::accepted_text;
+use hem_syntax::Protocol;
+use hem_text::TextError;
+use std::alloc::Global;
+
+/// The answer to a protocol.
+fn verdict(alloc: Global, protocol: Protocol) -> Result<Reply, OutOfMemory>
+    ensures { IfOk result (λ r. IsVerdict protocol r.status r.text.items) }
+{
+    match check(protocol) {
+        Ok(accepted) => {
+            let text = accepted_text(alloc, &accepted)?;
+            Ok(reply_with(Status::Done, text))
+        }
+        Err(refusal) => refused(alloc, &refusal),
+    }
+}
+
+/// The answer of `check` to a whole input.
+pub(crate) fn checked(alloc: Global, bytes: &[u8]) -> Result<Reply, OutOfMemory>
+    requires { length bytes.now ≤ most_bytes }
+    ensures { IfOk result (λ r. IsCheckAnswer bytes.now r.status r.text.items) }
+{
+    match read_protocol_document(alloc, bytes) {
+        Ok(protocol) => verdict(alloc, protocol),
+        Err(TextError::Text(fault)) => unread(alloc, fault),
+        Err(TextError::OutOfMemory) => Err(OutOfMemory),
+    }
+}

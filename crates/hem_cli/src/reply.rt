@@ -1,0 +1,62 @@
+//! Replies: a status and the text that goes with it.
+
+ghost use Rattle.std.specs.Prelude.{◌≡◌, Some, option_map, string_bytes, IfOk};
+ghost use Rattle.hem_syntax.specs.Protocol.{Protocol};
+ghost use Rattle.hem_check.specs.Discipline.{first_broken};
+ghost use Rattle.hem_check.specs.Refused.{refusal_of};
+ghost use Rattle.hem_cli.specs.Answer.{IsRefused};
+ghost use Rattle.hem_cli.specs.Texts.{fault_text};
+ghost use Rattle.hem_cli.specs.declared.status.Status.{Status};
+
+use crate::Status;
+use crate::fault_texts::fault_text;
+use hem_base::OutOfMemory;
+use hem_check::Refusal;
+use hem_report::refusal_text;
+use hem_text::TextFault;
+use std::alloc::Global;
+
+/// A status and the text that goes with it.
+#[derive(Drop)]
+pub(crate) struct Reply {
+    pub(crate) status: Status,
+    pub(crate) text: Vec<u8>,
+}
+
+/// The reply of a status with a promised text.
+pub(crate) fn reply_of(alloc: Global, status: Status, text: &str) -> Result<Reply, OutOfMemory>
+    ensures status { IfOk result (λ r. r.status ≡ status) }
+    ensures text { IfOk result (λ r. r.text.items ≡ text.now) }
+{
+    let text = Vec::from_slice(alloc, text.as_bytes())?;
+    Ok(Reply { status, text })
+}
+
+/// The reply of a status with a text of the program's own.
+pub(crate) fn reply_with(status: Status, text: String) -> Reply
+    ensures status { result.status ≡ status }
+    ensures text { result.text.items ≡ string_bytes text }
+{
+    Reply {
+        status,
+        text: text.into_bytes(),
+    }
+}
+
+/// The reply to bytes with a fault.
+pub(crate) fn unread(alloc: Global, fault: TextFault) -> Result<Reply, OutOfMemory>
+    ensures status { IfOk result (λ r. r.status ≡ Status.Text) }
+    ensures text { IfOk result (λ r. r.text.items ≡ fault_text fault) }
+{
+    let text = fault_text(alloc, fault)?;
+    Ok(reply_with(Status::Text, text))
+}
+
+/// The reply to a protocol that isn't disciplined.
+pub(crate) fn refused(alloc: Global, refusal: &Refusal) -> Result<Reply, OutOfMemory>
+    ensures status { IfOk result (λ r. r.status ≡ Status.Refused) }
+    ensures text { IfOk result (λ r. (p : Protocol) → option_map (refusal_of p) (first_broken p) ≡ Some refusal.now → IsRefused p r.text.items) }
+{
+    let text = refusal_text(alloc, refusal)?;
+    Ok(reply_with(Status::Refused, text))
+}
