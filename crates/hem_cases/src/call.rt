@@ -3,7 +3,6 @@
 use hem_cli::{Status, hem};
 use hem_io::{MemSink, MemSource, OpenGate};
 use std::alloc::Global;
-use std::process::Abort;
 use std::test::Fail;
 use std::thread::Threads;
 
@@ -19,19 +18,4 @@ pub fn answer<R: Threads + Sync>(
     let mut sink = MemSink::make(alloc, 1_000_000, 1_000_000, Vec::new(alloc))?;
     let status = hem(rt, alloc, &words, &mut source, &mut sink, &OpenGate);
     Ok((status, sink))
-}
-
-/// Asks for the answer to a document, and compares it.
-pub fn check<R: Abort + Threads + Sync>(
-    rt: &R,
-    alloc: Global,
-    document: Vec<u8>,
-    status: Status,
-    text: &str,
-) -> Result<(), Fail> {
-    let (given, sink) = answer(rt, alloc, document)?;
-    let written = str::from_utf8(sink.bytes()).unwrap_or("no text");
-    assert_eq!(rt; written, text);
-    assert_eq!(rt; given, status);
-    Ok(())
 }

@@ -78,7 +78,7 @@ fn prepared(alloc: Global, bytes: &[u8]) -> Result<String, Fail> {
         Ok(document) => document,
         Err(_) => return Ok(String::from_str(alloc, "unread")?),
     };
-    match set_up(alloc, &document) {
+    match set_up(alloc, &document.protocol, &document.tree, &document.work) {
         Ok(_) => Ok(String::from_str(alloc, "lawful")?),
         Err(SetupError::Setup(fault)) => {
             let (line, column, cause) = (fault.place.line, fault.place.column, fault.cause);

@@ -20,12 +20,13 @@ fn name(alloc: Global, text: &mut String, sort: &str, number: u32) -> Result<(),
     Ok(())
 }
 
-/// Appends the 64 messages, of which the first is a request of a processor and the second the answer.
+/// Appends the 64 messages: a processor's request and its answer, a child's request and its answer, and more requests.
 fn messages(alloc: Global, text: &mut String) -> Result<(), Fail> {
     for number in 0..64 {
         let class = match number {
             0 => " ext_req\n",
             1 => " ext_rsp\n",
+            3 => " down_rsp\n",
             _ => " up_req\n",
         };
         text.push_str("message")?;
@@ -60,17 +61,23 @@ fn guard(alloc: Global, text: &mut String) -> Result<(), Fail> {
     Ok(())
 }
 
-/// Appends the 64 rules of a kind, with names that no other kind has.
-fn rules(alloc: Global, text: &mut String, sort: &str) -> Result<(), Fail> {
+/// Appends the 64 rules of a kind, with names that no other kind has: each answers the request at once.
+fn rules(
+    alloc: Global,
+    text: &mut String,
+    sort: &str,
+    request: u32,
+    answer: u32,
+) -> Result<(), Fail> {
     for number in 0..64 {
         text.push_str("rule")?;
         name(alloc, text, sort, number)?;
         text.push_str(" take me")?;
-        name(alloc, text, "m", 0)?;
-        text.push_str(" need up any down any")?;
+        name(alloc, text, "m", request)?;
+        text.push_str(" need up free down free")?;
         guard(alloc, text)?;
         text.push_str(" send me")?;
-        name(alloc, text, "m", 1)?;
+        name(alloc, text, "m", answer)?;
         text.push_str(" msg end\n")?;
     }
     Ok(())
@@ -82,12 +89,14 @@ fn kind(alloc: Global, text: &mut String, word: &str, sort: &str) -> Result<(), 
     text.push_str(word)?;
     text.push_str("\n")?;
     fields(alloc, text)?;
-    if word != "leaf" {
+    if word == "leaf" {
+        rules(alloc, text, sort, 0, 1)?;
+    } else {
         text.push_str("dir init")?;
         name(alloc, text, "s", 3)?;
         text.push_str("\n")?;
+        rules(alloc, text, sort, 2, 3)?;
     }
-    rules(alloc, text, sort)?;
     text.push_str("end\n")?;
     Ok(())
 }
@@ -143,6 +152,9 @@ fn greatest_document(rt: HostRuntime) -> Result<(), Fail> {
     requests(alloc, &mut text)?;
     let (status, sink) = answer(&rt, alloc, text.into_bytes())?;
     assert_eq!(rt; status, Status::Done);
-    assert!(rt; sink.bytes().starts_with(b"quiet\nstate\nline 0\n0 root "));
+    assert!(rt;
+        sink.bytes()
+            .starts_with(b"quiet\nblocks 300\nblock 0\n15 7 ")
+    );
     Ok(())
 }

@@ -1,13 +1,12 @@
-//! Tests of whole documents, of the shipped protocols and of single firings. The answers in their tables are not the
-//! program's own: they follow from the rules of the language.
+//! Tests of single firings, of the calls below the program, of failing ends and of documents at the limits. Documents that
+//! are only text with an answer stand in the table of `hem_tables`. What is expected is not the program's own answer: it
+//! follows from the rules of the language.
 #![tactic(auto)]
 
 #[cfg(test)]
 mod answers;
 #[cfg(test)]
 mod call;
-#[cfg(test)]
-mod cut_documents;
 #[cfg(test)]
 mod documents;
 #[cfg(test)]
@@ -21,18 +20,10 @@ mod names;
 #[cfg(test)]
 mod reading;
 #[cfg(test)]
-mod setup_faults;
-#[cfg(test)]
 mod shipped_texts;
 #[cfg(test)]
 mod streams;
 #[cfg(test)]
-mod table;
-#[cfg(test)]
-mod text_faults;
-#[cfg(test)]
 mod tokens;
 #[cfg(test)]
 mod trees;
-#[cfg(test)]
-mod worked_histories;
