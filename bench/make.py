@@ -3,11 +3,12 @@
 
     python3 bench/make.py one-step N    N requests and N firings of rules that answer at once, over eight leaves
     python3 bench/make.py rounds N      N firings of inclusive MSI: loads and evictions over 64 objects and 16 lines
+    python3 bench/make.py stores N      N firings of inclusive MSI: eight leaves below eight mids store to one line
     python3 bench/make.py entries N     N entries of work with one request each
-    python3 bench/make.py protocol      a protocol of the greatest size
+    python3 bench/make.py protocol      a protocol of the greatest size, with the most to try for its discipline
     python3 bench/make.py comments N    N bytes of comments in front of a small document
     python3 bench/make.py signs N       N bytes, each a token: no document, and what is held of tokens is the most
-    python3 bench/make.py sends N       N firings of six bytes that each send to eight children, who never take
+    python3 bench/make.py alone N       N firings of six bytes, each a transaction of its own
 """
 import sys
 
@@ -90,6 +91,48 @@ def rounds(count):
     yield 'end\nhistory\n%s\nend\n' % '\n'.join(history)
 
 
+def next_store(k):
+    """Which leaf's store comes next: mostly the first six in turn; the last two wait for very long."""
+    if k % 1000 == 999:
+        return 7
+    return 6 if k % 100 == 99 else (k - k // 100 - k // 1000) % 6
+
+
+def stores(count):
+    """All eight leaves wait for a store. One is granted at a time: the copy of the last one is taken back, which has
+    begun to evict it every second time, and that leaf asks for its next store, which waits for the others."""
+    mids, leaves = range(1, 17, 2), range(2, 18, 2)
+    history, asked = [], [0] * 8
+
+    def ask(k):
+        asked[k] += 1
+        history.extend(['0 %d st_miss' % leaves[k], '0 %d getm_up from %d' % (mids[k], leaves[k])])
+
+    for k in range(8):
+        ask(k)
+    owner, made = None, 0
+    while len(history) < count:
+        k = next_store(made)
+        evicts = made % 2 == 1
+        made += 1
+        if owner is None:
+            history.append('0 0 getm_hit from %d' % mids[k])
+        else:
+            mid, leaf = mids[owner], leaves[owner]
+            history.extend(['0 %d evict' % leaf] * evicts)
+            history.extend(['0 0 getm_inv from %d' % mids[k], '0 %d inv_down' % mid, '0 %d inv' % leaf,
+                            '0 %d inv_done' % mid, '0 0 getm_done'])
+        history.extend(['0 %d getm_resp' % mids[k], '0 %d st_resp' % leaves[k]])
+        if owner is not None:
+            history.extend(['0 %d put_i from %d' % (mid, leaf), '0 %d evict_ack' % leaf] * evicts)
+            ask(owner)
+        owner = k
+    yield 'use msi_inclusive\ntree root(%s)\nwork lines 1 self 0\n' % ' '.join(['mid(leaf)'] * 8)
+    for k in range(8):
+        yield 'at %d line 0%s\n' % (leaves[k], ''.join(' St %d' % (8 * i + k) for i in range(asked[k])))
+    yield 'end\nhistory\n%s\nend\n' % '\n'.join(history[:count])
+
+
 def entries(count):
     """Entries of one request each."""
     yield 'use mesi_inclusive\n' + LEAVES + 'work lines 16 self 0\n'
@@ -98,25 +141,49 @@ def entries(count):
     yield 'end\nhistory end\n'
 
 
-def rule(kind, number):
-    """A rule with sixteen conditions that sets every place."""
-    atoms = ['f%d in A B C D' % (k % 3) for k in range(16)]
-    sets = ['f0 := A', 'f1 := B', 'f2 := C', 'val := rs', 'targets := D', 'me := A']
-    return ('rule %s%d take kids m%d need up any down any\n  when %s\n  set %s\n  free up lock down self send %s end\n'
-            % (kind, number, number, ', '.join(atoms), ', '.join(sets), 'kids in A B C D m%d rs' % number))
+ATOMS = ['%s A B C D' % atom for atom in ['f0 in', 'f1 in', 'f2 in', 'kids all', 'kids any', 'me in', 'others all']]
+SETS = 'set f0 := A, f1 := B, f2 := C'
+
+
+def rule(name, atoms, take, needs, rest):
+    """A rule with sixteen conditions, which hold in each state."""
+    guard = ', '.join(ATOMS[k % atoms] for k in range(16))
+    return 'rule %s take %s need up %s down %s\n  when %s\n  %s end\n' % (name, take, *needs.split(), guard, rest)
+
+
+def root_rules():
+    for k in range(64):
+        yield rule('hit%d' % k, 7, 'me UpReq', 'free free', SETS + ', val := msg, me := D send me DownRsp val')
+
+
+def mid_rules():
+    """For each request up all pairs of a rule that asks the children and one that answers the parent then are tried."""
+    for k in range(21):
+        yield rule('up%d' % k, 5, 'me UpReq', 'free free', 'lock up child send parent UpReq msg')
+        yield rule('ask%d' % k, 5, 'parent DownReq', 'any free', 'lock down parent send kids in A B C D DownReq 0')
+    for k in range(22):
+        yield rule('answer%d' % k, 5, 'kids UpRsp', 'any parent',
+                   SETS + ', val := rs, targets := D free down send parent UpRsp rs')
+
+
+def leaf_rules():
+    for k in range(32):
+        yield rule('up%d' % k, 3, 'me ExtReq', 'free free', 'lock up child send parent UpReq msg')
+        yield rule('answer%d' % k, 3, 'parent DownReq', 'any free', SETS + ', val := 0 send parent UpRsp val')
 
 
 def greatest_protocol():
-    """64 messages, three kinds of 64 rules with sixteen conditions each."""
+    """64 messages, three kinds of 64 rules with sixteen conditions each; it is accepted."""
     yield 'protocol greatest\nstatus A B C D\n'
+    classes = [('ExtReq', 'ext_req'), ('ExtRsp', 'ext_rsp'), ('UpReq', 'up_req'), ('UpRsp', 'up_rsp'),
+               ('DownReq', 'down_req'), ('DownRsp', 'down_rsp')]
     for k in range(64):
-        yield 'message m%d %s\n' % (k, ['ext_req', 'ext_rsp', 'up_req', 'up_rsp', 'down_req', 'down_rsp'][k % 6])
-    for kind in ['root', 'mid', 'leaf']:
+        name, cls = classes[k % 6]
+        yield 'message %s%s %s\n' % (name, k // 6 or '', cls)
+    for kind, rules in [('root', root_rules), ('mid', mid_rules), ('leaf', leaf_rules)]:
         yield 'kind %s\nfield f0 init A\nfield f1 init B\nfield f2 init C\n' % kind
-        if kind != 'leaf':
-            yield 'dir init D\n'
-        for k in range(64):
-            yield rule(kind, k)
+        yield 'dir init D\n' if kind != 'leaf' else ''
+        yield from rules()
         yield 'end\n'
     yield 'end\n' + LEAVES + 'work lines 1 self 0 end\nhistory end\n'
 
@@ -133,11 +200,10 @@ def signs(size):
     yield '(' * size
 
 
-SENDS = """protocol sends
+ALONE = """protocol alone
 status I S
-message D down_req
 kind root dir init S
-rule r take none need up any down any send kids in S D 0 end
+rule r take none need up free down free end
 end
 kind mid dir init I end
 kind leaf end
@@ -145,14 +211,14 @@ end
 """
 
 
-def sends(count):
-    """Firings of the root."""
-    yield SENDS + LEAVES + 'work lines 1 self 0 end\nhistory\n' + '0 0 r\n' * count + 'end\n'
+def alone(count):
+    """Firings of the root, each a transaction of its own."""
+    yield ALONE + LEAVES + 'work lines 1 self 0 end\nhistory\n' + '0 0 r\n' * count + 'end\n'
 
 
 def main(words):
-    makers = {'one-step': one_step, 'rounds': rounds, 'entries': entries, 'comments': comments, 'signs': signs,
-              'sends': sends}
+    makers = {'one-step': one_step, 'rounds': rounds, 'stores': stores, 'entries': entries, 'comments': comments,
+              'signs': signs, 'alone': alone}
     if words == ['protocol']:
         pieces = greatest_protocol()
     elif len(words) == 2 and words[0] in makers and words[1].isdigit():

@@ -10,11 +10,8 @@ program=${1:-./crates/hem/out/hem}
 [ $# -gt 0 ] || ./hem >/dev/null 2>&1 </dev/null
 folder=$(mktemp -d) || exit 1
 trap 'rm -r "$folder"' EXIT
-export PYTHONDONTWRITEBYTECODE=1
-mkdir "$folder/shipped" || exit 1
-python3 -c 'import sys; sys.path.insert(0, "compare"); import shipped
-for name, text in shipped.SHIPPED.items(): open(sys.argv[1] + "/" + name, "w").write(text)' "$folder/shipped" || exit 1
-SHIPPED_TEXTS=$folder/shipped rustc --edition 2024 -O bench/plain/main.rs -o "$folder/plain" || exit 1
+. bench/plain/build.sh
+build_plain "$folder" || exit 1
 python3 bench/ratio.py same "$program" "$folder/plain" examples/*.hem || exit 1
 measure() {
     python3 bench/make.py "$@" >"$folder/document" || exit 1
@@ -23,8 +20,9 @@ measure() {
 }
 for size in 10000 100000; do measure one-step "$size"; done
 for size in 100000 1000000; do measure rounds "$size"; done
+for size in 100000 1000000; do measure stores "$size"; done
 for size in 10000 100000; do measure entries "$size"; done
 measure protocol
 for size in 3300000 33000000; do measure comments "$size"; done
 measure signs 33554432
-measure sends 1000000
+measure alone 1000000

@@ -11,8 +11,9 @@ measure() {
 }
 for size in 10000 100000; do measure one-step "$size"; done
 for size in 100000 1000000; do measure rounds "$size"; done
+for size in 100000 1000000; do measure stores "$size"; done
 for size in 10000 100000; do measure entries "$size"; done
 measure protocol
 for size in 3300000 33000000; do measure comments "$size"; done
 measure signs 33554432
-measure sends 1000000
+measure alone 1000000

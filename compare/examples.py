@@ -2,9 +2,10 @@
 
     python3 examples.py [PROGRAM]
 
-The answers are those of the reference, and those of the program where one is given. The index
-`examples/README.md` names each example, its status and its first line; `NAME.out` has the text.
-Also checked: the texts of the shipped protocols, and what `docs/EXPLAIN.md` shows of `tools/explain`.
+The answers are those of the reference, and those of the program where one is given. An example whose first line is
+`# hem check` is run by the job `check`, every other by `group`. The index `examples/README.md` names each example, its
+status and its first line; `NAME.out` has the text. Also checked: the texts of the shipped protocols, the rules and answers
+that `docs/DISCIPLINE.md` shows, and what `docs/EXPLAIN.md` shows of `tools/explain`.
 """
 import glob
 import os
@@ -13,11 +14,11 @@ import subprocess
 import sys
 
 import reference
+from reading import job_of
 from shipped import SHIPPED
 
 ROOT = os.path.dirname(os.path.dirname(os.path.abspath(__file__)))
 EXAMPLES = os.path.join(ROOT, 'examples')
-
 
 def text_of(*names):
     with open(os.path.join(ROOT, *names), encoding='latin-1') as file:
@@ -28,6 +29,16 @@ def names_below(*names):
     return sorted(os.path.basename(path) for path in glob.glob(os.path.join(ROOT, *names, '*.hem')))
 
 
+def wrong_charts():
+    """The charts among the documents that `tools/chart` draws otherwise."""
+    page = text_of('docs', 'CHARTS.md')
+    for name, picture in re.findall(r'^!\[(examples/\w+\.hem)\]\((\w+\.svg)\)$', page, re.M):
+        words = [os.path.join(ROOT, 'tools', 'chart'), os.path.join(ROOT, name), '--account']
+        with open(os.path.join(ROOT, 'docs', picture), encoding='utf-8') as file:
+            if subprocess.run(words, stdout=subprocess.PIPE).stdout.decode() != file.read():
+                yield 'docs/' + picture
+
+
 def rows():
     """The rows of the index: a name with its status and its first line."""
     found = re.findall(r'^\| `(\w+\.hem)` \| .* \| (\d+) \| `(.*)` \|$', text_of('examples', 'README.md'), re.M)
@@ -35,12 +46,12 @@ def rows():
 
 
 def of_program(path):
-    """What answers a document: the reference, or a program."""
+    """What answers an example: the reference, or a program."""
     if path is None:
-        return lambda document: reference.answer(['group'], document.encode('latin-1'))
+        return lambda document: reference.answer([job_of(document)], document.encode('latin-1'))
 
     def answer(document):
-        ran = subprocess.run([path, 'group'], input=document.encode('latin-1'), stdout=subprocess.PIPE)
+        ran = subprocess.run([path, job_of(document)], input=document.encode('latin-1'), stdout=subprocess.PIPE)
         return ran.returncode, ran.stdout.decode('latin-1')
     return answer
 
@@ -51,7 +62,7 @@ def wrong_answers(answer):
     for name in names_below('examples'):
         recorded = text_of('examples', name[:-len('.hem')] + '.out')
         status, text = answer(text_of('examples', name))
-        if index.get(name) != (status, text.split('\n')[0]) or recorded != text:
+        if index.get(name) != (status, text.split('\n')[0]) or text != recorded:
             yield 'examples/' + name
     for name in index:
         if name not in names_below('examples'):
@@ -64,6 +75,19 @@ def wrong_protocols():
     for name in sorted(set(names) | set(SHIPPED)):
         if name not in names or name not in SHIPPED or text_of('examples', 'protocols', name + '.hem') != SHIPPED[name]:
             yield 'examples/protocols/%s.hem' % name
+
+
+def wrong_in_discipline():
+    """The answers and rules of `docs/DISCIPLINE.md` that stand in no example."""
+    page = text_of('docs', 'DISCIPLINE.md')
+    for name, answer in re.findall(r'^```\n\$ \./hem check < examples/(\w+)\.hem\n(.*?)^```$', page, re.M | re.S):
+        if text_of('examples', name + '.out') != answer:
+            yield 'docs/DISCIPLINE.md: the answer to examples/%s.hem' % name
+    texts = [text_of('examples', name) for name in names_below('examples')] + list(SHIPPED.values())
+    known = {line for text in texts for line in text.split('\n')}
+    for line in re.findall(r'^rule \w.*$', page, re.M):
+        if line not in known:
+            yield 'docs/DISCIPLINE.md: ' + line
 
 
 def wrong_explanations(path):
@@ -79,10 +103,11 @@ def wrong_explanations(path):
 
 def main():
     path = os.path.abspath(sys.argv[1]) if len(sys.argv) > 1 else None
-    wrong = list(wrong_answers(of_program(None))) + list(wrong_protocols())
+    wrong = list(wrong_answers(of_program(None))) + list(wrong_protocols()) + list(wrong_in_discipline())
     if path is not None:
         wrong += ['%s, by the program' % name for name in wrong_answers(of_program(path))]
         wrong += wrong_explanations(path)
+    wrong += list(wrong_charts())
     for line in wrong:
         print('wrong: ' + line)
     print('%d examples, %d protocols, %d wrong' % (len(names_below('examples')), len(SHIPPED), len(wrong)))

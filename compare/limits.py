@@ -59,7 +59,7 @@ def item_limits():
         for more in ('', ' message', ' message m0 up_req', ' message 5', ' message frob'):
             yield built(messages=messages + more)
     for count in (62, 63, 64, 65):
-        rules = ' '.join('rule r%d take none need up any down any end' % k for k in range(count))
+        rules = ' '.join('rule r%d take none need up free down free end' % k for k in range(count))
         for place in ('root_rules', 'mid_rules', 'rules'):
             for more in ('', ' rule', ' rule r0', ' frob', ' field x init I'):
                 yield built(**{place: rules + more})
@@ -175,3 +175,11 @@ def limits(rng, number):
 def lengths(rng, number):
     """The longest histories and inputs; the number is of no account."""
     yield from long_limits()
+
+
+def protocol_lengths(rng, number):
+    """The longest inputs of the job `check`; the number is of no account."""
+    protocol = SMALL[:SMALL.index('tree')]
+    for count in (33554432, 33554433):
+        yield b' ' * count
+        yield data(protocol) + b'#' * (count - len(protocol))

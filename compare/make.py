@@ -6,11 +6,11 @@ bytes. `KINDS` names the makers with their share of the whole.
 import random
 
 import reading
-from limits import lengths, limits
-from protocols import joins, mixtures, random_head, random_protocols, shipped_walks, singles, with_histories
+from limits import lengths, limits, protocol_lengths
+from protocols import random_head, random_protocols, shipped_walks, singles, with_histories
 from shipped import SHIPPED
-from texts import GOOD, NUMBERS, RICH, data, layout, words_of
-from trials import trials
+from texts import GOOD, NUMBERS, SMALL, data, layout, words_of
+from verdicts import disciplined_walks, shipped_texts, verdicts
 
 RESERVED = sorted(reading.RESERVED)
 SIGNS = ['(', ')', ',', ':=', '!=', '=', '|']
@@ -22,6 +22,8 @@ def good_text(rng):
     form = rng.random()
     if form < 0.35:
         return rng.choice(GOOD)
+    if form < 0.65:
+        return next(disciplined_walks(rng, 1)).decode('latin-1')
     if form < 0.9:
         return next(with_histories(rng, random_head(rng), 4, 0)).decode('latin-1')
     name = rng.choice(sorted(SHIPPED))
@@ -62,7 +64,7 @@ def each_token(rng, number):
     for text in GOOD:
         tokens = words_of(text)
         for k in range(len(tokens)):
-            stand = stand_ins(rng, tokens) + (RESERVED if text != RICH else [])
+            stand = stand_ins(rng, tokens) + (RESERVED if len(tokens) < 200 else [])
             for new in [[], [tokens[k]] * 2] + [[t] for t in stand]:
                 yield data(changed(tokens, k, new))
 
@@ -125,26 +127,58 @@ def spoiled(rng, document):
     return document
 
 
-# The makers with their shares of the number of documents; those without a share make a fixed number.
+# Documents of the job `check`
+
+def protocol_of(text):
+    """The tokens of the protocol with which a document begins."""
+    tokens = words_of(text)
+    return tokens[:tokens.index('tree')]
+
+
+def protocol_cuts(rng, number):
+    """The protocols of the fixed documents cut after each token, and with a token too many; the number is of no account."""
+    for text in GOOD:
+        tokens = protocol_of(text)
+        for k in range(len(tokens) + 1):
+            yield data(' '.join(tokens[:k]))
+        for more in RESERVED + SIGNS + BAD + ['frob', '0']:
+            yield data(' '.join(tokens + [more]))
+    yield data(SMALL)
+
+
+def protocol_changes(rng, number):
+    """One token of a protocol changed."""
+    made = 0
+    while made < number:
+        tokens = protocol_of(good_text(rng))
+        for _ in range(60):
+            made += 1
+            yield data(random_change(rng, tokens))
+
+
+# The makers with their shares of the number of documents, and the job; those without a share make a fixed number.
 KINDS = [
-    ('each_cut', each_cut, None),
-    ('each_token', each_token, None),
-    ('limits', limits, None),
-    ('cuts', cuts, 0.15),
-    ('tokens', token_changes, 0.26),
-    ('bytes', byte_changes, 0.15),
-    ('singles', singles, 0.05),
-    ('protocols', random_protocols, 0.12),
-    ('joins', joins, 0.08),
-    ('trials', trials, 0.10),
-    ('mixtures', mixtures, 0.07),
-    ('walks', shipped_walks, 0.02),
-    ('lengths', lengths, None),
+    ('each_cut', each_cut, None, 'group'),
+    ('each_token', each_token, None, 'group'),
+    ('limits', limits, None, 'group'),
+    ('cuts', cuts, 0.12, 'group'),
+    ('tokens', token_changes, 0.20, 'group'),
+    ('bytes', byte_changes, 0.12, 'group'),
+    ('singles', singles, 0.05, 'group'),
+    ('protocols', random_protocols, 0.02, 'group'),
+    ('disciplined_walks', disciplined_walks, 0.14, 'group'),
+    ('walks', shipped_walks, 0.07, 'group'),
+    ('lengths', lengths, None, 'group'),
+    ('verdicts', verdicts, 0.20, 'check'),
+    ('protocol_changes', protocol_changes, 0.08, 'check'),
+    ('protocol_cuts', protocol_cuts, None, 'check'),
+    ('shipped', shipped_texts, None, 'check'),
+    ('protocol_lengths', protocol_lengths, None, 'check'),
 ]
 
 
 def documents(kind, seed, number):
     """The documents of one kind, for a seed."""
-    for name, maker, _ in KINDS:
+    for name, maker, _, _ in KINDS:
         if name == kind:
             yield from maker(random.Random('%s %d' % (kind, seed)), number)

@@ -2,9 +2,7 @@
 import reading
 import reference
 from shipped import SHIPPED
-from texts import data, layout, words_of
-
-SHIPPED_MESSAGES = reading.Reader(SHIPPED['mesi_noninclusive']).protocol().messages.items()
+from texts import data, layout
 
 VALUES = ['val', 'msg', 'kept', 'rs', '0']
 
@@ -167,69 +165,6 @@ class Writer:
         return tokens + ['end']
 
 
-JOIN_LEAF = """
-kind leaf field st init {0} field own init {0}
-rule load take me Ld need up any down any set val := msg send me LdR msg end
-rule ask take me Ld need up any down any lock up child send parent Up msg end
-rule tell take me Ld need up any down any send parent UpR msg end
-rule odd take me Ld need up any down any send parent LdR msg end
-rule answer take parent Dn need up any down any send parent UpR val end
-rule pass take parent Dn need up any down any send parent UpR msg end
-rule got take parent DnR need up any down any free up end
-end end
-"""
-
-JOIN_MESSAGES = [('Ld', 'ext_req'), ('LdR', 'ext_rsp'), ('Up', 'up_req'), ('UpR', 'up_rsp'), ('Dn', 'down_req'),
-                 ('DnR', 'down_rsp')]
-
-
-def join_kind(writer, kind):
-    """A root or mid that asks its children and joins their responses in many ways."""
-    rng, asks = writer.rng, ' in ' + ' '.join(writer.statuses) + ' Dn '
-    tokens = ['kind', kind, 'field', 'st', 'init', writer.statuses[0], 'field', 'own', 'init', writer.statuses[0]]
-    tokens += ['dir', 'init', rng.choice(writer.statuses)]
-    starts = ['take none need up any down any lock down self send kids' + asks + '0 end',
-              'take me Up need up any down any lock down child send kids' + asks + 'msg end',
-              'take me Up need up any down any lock down child send others' + asks + 'msg end',
-              'take me Up need up any down any lock up child send kids' + asks + 'msg end']
-    if kind == 'mid':
-        starts += ['take parent Dn need up any down any lock down parent send kids' + asks + 'msg end',
-                   'take me Up need up any down any lock up child send parent Up msg end']
-    for k, start in enumerate(rng.sample(starts, rng.randint(2, len(starts)))):
-        tokens += ['rule', 's%d' % k] + start.split()
-    for k in range(4):
-        free = rng.choice([[], ['free', 'down'], ['free', 'down'], ['free', 'up']])
-        lock = writer.locks(kind, 'kids') if rng.random() < 0.4 else []
-        to = rng.choice([None, 'me', 'parent' if kind == 'mid' else 'me', 'kids', 'others'])
-        tokens += writer.rule(kind, 'j%d' % k, ['st', 'own'], ('kids', free, lock, to))
-    for k in range(3):
-        tokens += writer.rule(kind, 'r%d' % k, ['st', 'own'])
-    return tokens + ['end']
-
-
-def joins(rng, number):
-    """Protocols in which responses of several children are joined, and firings whose names don't exist."""
-    made = 0
-    while made < number:
-        writer = Writer(rng, 0.4)
-        writer.statuses, writer.messages = ['I', 'S', 'M'], JOIN_MESSAGES
-        tokens = 'protocol joins status I S M'.split()
-        for name, cls in JOIN_MESSAGES:
-            tokens += ['message', name, cls]
-        tokens += join_kind(writer, 'root') + join_kind(writer, 'mid') + JOIN_LEAF.format('I').split()
-        kinds = rng.choice(['leaf leaf', 'leaf leaf leaf', 'mid ( leaf leaf )', 'mid ( leaf leaf leaf ) leaf',
-                            'leaf mid ( leaf mid ( leaf leaf ) )']).split()
-        tokens += ['tree', 'root', '('] + kinds + [')', 'work', 'lines', '1', 'self', '0']
-        for k, kind in enumerate(t for t in kinds if t in ('leaf', 'mid')):
-            if kind == 'leaf':
-                tokens += ['at', str(k + 1), 'line', '0']
-                for _ in range(rng.randint(2, 6)):
-                    tokens += ['Ld', str(rng.randint(0, 99))]
-        for document in with_histories(rng, tokens + ['end'], rng.choice([10, 25]), 7):
-            made += 1
-            yield document
-
-
 def node(rng, level, deepest, room):
     """A random node below the root, as tokens; `room` holds how many objects may still come."""
     room[0] -= 1
@@ -384,20 +319,20 @@ def singles(rng, number):
         tokens = 'protocol p status I S message Ld ext_req message LdR ext_rsp message Up up_req kind root'.split()
         tokens += 'dir init I end kind mid dir init I end kind leaf field st init S'.split()
         for k in range(count):
-            tokens += ['rule', 'r%d' % k, 'take', 'me', rng.choice(['Ld'] * 9 + ['Up'])]
-            tokens += ['need', 'up', rng.choice(['free'] * 9 + ['any'])]
-            tokens += ['down', rng.choice(['free'] * 9 + ['any'])]
+            tokens += ['rule', 'r%d' % k, 'take', 'me', rng.choice(['Ld'] * 49 + ['Up'])]
+            tokens += ['need', 'up', rng.choice(['free'] * 49 + ['any'])]
+            tokens += ['down', rng.choice(['free'] * 49 + ['any'])]
             tokens += rng.choice([[], [], ['when', 'st', 'in', 'S', 'I'], ['when', 'st', 'in', 'S'],
                                   ['when', 'st', 'in', 'I', ',', 'st', 'in', 'I', 'S']])
-            if rng.random() < 0.1:
+            if rng.random() < 0.02:
                 tokens += [',' if 'when' in tokens[-9:] else 'when'] + rng.choice(
                     ['kids all I', 'others all I', 'me in I', 'asked Ld', 'others any S']).split()
             tokens += rng.choice([[], [], 'set st := I'.split(), 'set val := msg'.split(), 'set st := S'.split(),
                                   'set val := 0 , st := S'.split(), rng.choice(
                                       ['set me := I', 'set val := kept', 'set val := rs', 'set targets := I']).split()
-                                  if rng.random() < 0.2 else []])
-            tokens += rng.choice([[]] * 12 + ['free up'.split(), 'lock up child'.split()])
-            tokens += rng.choice([['send', 'me', rng.choice(['LdR'] * 12 + ['Ld']), rng.choice(['val', 'msg', '0'])]] * 12
+                                  if rng.random() < 0.1 else []])
+            tokens += rng.choice([[]] * 98 + ['free up'.split(), 'lock up child'.split()])
+            tokens += rng.choice([['send', 'me', rng.choice(['LdR'] * 49 + ['Ld']), rng.choice(['val', 'msg', '0'])]] * 98
                                  + [[], 'send parent Up 0'.split()])
             tokens += ['end']
         tokens += ['end', 'end'] + tree(rng, 3, 6)
@@ -419,67 +354,6 @@ def shipped_walks(rng, number):
         for document in with_histories(rng, head, rng.choice([20, 60, 120]), 3):
             made += 1
             yield document
-
-
-SAME = [
-    ['val', 'msg', 'kept', 'rs', '0'], ['any', 'free', 'child', 'parent', 'self'], ['child', 'parent', 'self'],
-    ['up', 'down'], ['all', 'any'], ['me', 'parent', 'kids', 'none'], ['kids', 'others'],
-    ['me', 'targets', 'val', 'st', 'own'], ['st', 'own', 'me'],
-    ['I', 'S', 'M', 'E'], [name for name, _ in SHIPPED_MESSAGES],
-]
-
-
-def reads(tokens):
-    """Whether the tokens of a protocol read as one."""
-    try:
-        reading.Reader(' '.join(tokens)).protocol()
-        return True
-    except reading.Fault:
-        return False
-
-
-def loosened(rng, tokens, number):
-    """The tokens of a protocol with some of its parts exchanged, so that it still reads."""
-    for _ in range(number):
-        k = rng.randrange(tokens.index('kind'), len(tokens))
-        lists = [same for same in SAME if tokens[k] in same]
-        if lists and rng.random() < 0.8:
-            other = tokens[:k] + [rng.choice(rng.choice(lists))] + tokens[k + 1:]
-        elif tokens[k] in ('when', 'set'):
-            ends = [i for i in range(k + 1, len(tokens)) if tokens[i] in ('set', 'free', 'lock', 'send', 'end')]
-            other = tokens[:k] + tokens[ends[0]:]
-        elif tokens[k] in ('free', 'lock', 'send'):
-            ends = [i for i in range(k + 1, len(tokens)) if tokens[i] in ('lock', 'send', 'end')]
-            other = tokens[:k] + tokens[ends[0]:]
-        else:
-            continue
-        if reads(other):
-            tokens = other
-    return tokens
-
-
-def free_needs(rng, tokens):
-    """The tokens of a protocol with most needs `any`."""
-    return ['any' if k and tokens[k - 1] in ('up', 'down') and t in ('free', 'child', 'parent', 'self')
-            and tokens[k - 2] != 'lock' and rng.random() < 0.7 else t for k, t in enumerate(tokens)]
-
-
-def mixtures(rng, number):
-    """Random histories of the shipped protocols with many parts of their rules exchanged."""
-    made = 0
-    texts = [words_of(text) for text in SHIPPED.values()]
-    while made < number:
-        tokens = loosened(rng, rng.choice(texts), rng.choice([5, 30, 60]))
-        if rng.random() < 0.5:
-            tokens = free_needs(rng, tokens)
-        protocol = reading.Reader(' '.join(tokens)).protocol()
-        for _ in range(3):
-            tree_tokens = rng.choice([deep_tree(rng), tree(rng, 3, 6), tree(rng, 3, 6)])
-            kinds = ['root'] + [t for t in tree_tokens[2:] if t in ('leaf', 'mid')]
-            head = tokens + tree_tokens + work(rng, protocol, kinds, rng.randint(1, 2), 8)
-            for document in with_histories(rng, head, rng.choice([15, 40]), 8):
-                made += 1
-                yield document
 
 
 def deep_tree(rng):

@@ -1,4 +1,4 @@
-"""Reads a document of the job `group` token by token, and finds its first fault."""
+"""Reads the documents of the jobs token by token, and finds their first fault."""
 import re
 from collections import namedtuple
 
@@ -61,6 +61,12 @@ def value_of(digits):
 def within(digits, bound):
     """Whether a number written in digits is at most the bound."""
     return len(digits.lstrip('0')) <= 20 and value_of(digits) <= bound
+
+
+def job_of(text):
+    """The job that a document names in its first line, as `# hem check`, or else `group`."""
+    named = re.match(r'# hem (check|group)\r?\n', text)
+    return named.group(1) if named else 'group'
 
 
 # What may stand at a place
@@ -377,6 +383,11 @@ class Reader:
                 then = self.step(number('line', past=full), words('end'))
             firings.append(Firing(line, where, rule, me))
         return firings
+
+    def protocol_alone(self):
+        protocol = self.protocol()
+        self.step(Choice('end'))
+        return protocol
 
     def document(self):
         protocol = self.protocol()

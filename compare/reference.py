@@ -1,5 +1,6 @@
-"""A slow and plain account of the job `group`, written apart from the program.
+"""A slow and plain account of the jobs `check` and `group`, written apart from the program.
 
+    python3 reference.py check < DOCUMENT
     python3 reference.py group < DOCUMENT
 
 `answer(words, data)` gives the status and the text for any words and bytes. It shares
@@ -8,6 +9,7 @@ nothing with the program: it is there to be compared with it.
 import sys
 from collections import namedtuple
 
+from discipline import REQUESTS, accepted_lines, first_broken, refusal_text, template
 from reading import Fault, Reader, place_of
 
 INPUT_LIMIT = 33554432
@@ -18,8 +20,6 @@ LINE_LIMIT = 16
 SELF_LIMIT = 1000
 REQUEST_LIMIT = 100000
 START_LIMIT = 200000
-
-REQUEST_CLASSES = ('ext_req', 'up_req', 'down_req')
 
 
 # The setup
@@ -211,7 +211,7 @@ def destination(protocol, rule, view, objects):
 def in_hand(protocol, rule, view, sent):
     """The request that a lock of the rule keeps, or None."""
     side = rule.take[0]
-    if side in ('me', 'parent') and protocol.messages[view.taken[0].id] in REQUEST_CLASSES:
+    if side in ('me', 'parent') and protocol.messages[view.taken[0].id] in REQUESTS:
         return view.taken[0].id, view.taken[0].value
     if side in ('parent', 'kids'):
         return None if view.kept is None else (view.kept.id, view.kept.value)
@@ -305,140 +305,7 @@ def quiet(state):
     return True
 
 
-# Templates and the printed order
-
-FORMS = {
-    # take, free, lock, send: name, need on the uplock, need on the downlock, whether it may set
-    ('none', None, None, None): ('imm_self', 'free', 'free', True),
-    ('me request', None, None, 'me response'): ('imm_down', 'free', 'free', True),
-    ('parent request', None, None, 'parent response'): ('imm_up', 'any', 'free', True),
-    ('me request', None, 'up child', 'parent request'): ('rq_up', 'free', 'free', False),
-    ('none', None, 'up self', 'parent request'): ('rq_up_self', 'free', 'free', False),
-    ('me request', None, 'down child', 'others request'): ('rq_up_down', 'free', 'free', False),
-    ('none', None, 'down self', 'kids request'): ('rq_down_self', 'free', 'free', False),
-    ('parent request', None, 'down parent', 'kids request'): ('rq_down_down', 'any', 'free', False),
-    ('parent response', 'up', None, 'me response'): ('rs_down', 'child', 'free', True),
-    ('parent response', 'up', None, None): ('rs_down_self', 'self', 'free', True),
-    ('parent response', 'up', 'down child', 'others request'): ('rs_down_rq_down', 'child', 'free', True),
-    ('kids response', 'down', None, 'me response'): ('rs_up_down', 'any', 'child', True),
-    ('kids response', 'down', None, 'parent response'): ('rs_up_up', 'any', 'parent', True),
-    ('kids response', 'down', None, None): ('rs_up_self', 'any', 'self', True),
-}
-
-NARROW = ('rq_up', 'rq_up_self', 'imm_up', 'rq_down_down', 'rs_up_up')
-
-
-def classes_fit(kind, taken, taken_class, to, sent_class):
-    """Whether the classes of the messages are those of their directions."""
-    takes = {'none': (None,), 'me': ('ext_req',) if kind == 'leaf' else ('up_req',),
-             'parent': ('down_req', 'down_rsp'), 'kids': ('up_rsp',)}
-    sends = {None: (None,), 'me': ('ext_rsp',) if kind == 'leaf' else ('down_rsp',),
-             'parent': ('up_req', 'up_rsp'), 'kids': ('down_req',), 'others': ('down_req',)}
-    return taken_class in takes[taken] and sent_class in sends[to]
-
-
-def names_fit(protocol, kind, rule, up, down, response):
-    """Whether every name of the rule has a meaning wherever the rule may fire."""
-    taken = rule.take[0]
-    atoms = {name for name, _, _ in rule.guard}
-    places = {place for place, _ in rule.sets}
-    values = {what for place, what in rule.sets if place == 'val'} | ({rule.send[3]} if rule.send else set())
-    if atoms & {'me', 'others'} or 'me' in places:
-        if kind == 'leaf' or not (taken == 'me' or 'child' in (up, down)):
-            return False
-    if 'kids' in atoms and kind == 'leaf':
-        return False
-    kept = taken == 'kids' or (taken == 'parent' and response)
-    if ('asked' in atoms or 'kept' in values) and not kept:
-        return False
-    if any(name == 'asked' and protocol.messages[chosen] not in REQUEST_CLASSES for name, _, chosen in rule.guard):
-        return False
-    if 'msg' in values and taken not in ('me', 'parent'):
-        return False
-    return taken == 'kids' or not ('rs' in values or 'targets' in places)
-
-
-def template(protocol, kind, rule):
-    """The template of a rule, or None where it has none."""
-    taken, taken_id = rule.take
-    to = rule.send[0] if rule.send else None
-    taken_class = protocol.messages[taken_id] if taken_id is not None else None
-    sent_class = protocol.messages[rule.send[2]] if rule.send else None
-    if kind == 'root' and 'parent' in (taken, to):
-        return None
-    if kind == 'leaf' and (taken == 'kids' or to in ('kids', 'others')):
-        return None
-    if not classes_fit(kind, taken, taken_class, to, sent_class):
-        return None
-
-    def form_of(side, message_class):
-        if message_class is None:
-            return side
-        return side + (' request' if message_class.endswith('req') else ' response')
-
-    lock = ' '.join(rule.lock) if rule.lock else None
-    found = FORMS.get((form_of(taken, taken_class), rule.free, lock, form_of(to, sent_class)))
-    if found is None:
-        return None
-    name, up, down, may_set = found
-    if (rule.up, rule.down) != (up, down) or (rule.sets and not may_set):
-        return None
-    if name in NARROW and any(atom[0] in ('me', 'others') for atom in rule.guard):
-        return None
-    response = taken_class is not None and taken_class.endswith('rsp')
-    return name if names_fit(protocol, kind, rule, up, down, response) else None
-
-
-def is_one_step(protocol):
-    """Whether every rule is a leaf's rule of the template imm_down."""
-    return all(kind == 'leaf' and template(protocol, kind, rule) == 'imm_down'
-               for kind, part in protocol.kinds.items() for rule in part.rules.values())
-
-
-def normal_order(protocol, nodes, history, numbers):
-    """The places of the history in normal order."""
-    upward = []
-    for firing in history:
-        kind = nodes[firing.object].kind
-        name = template(protocol, kind, protocol.kinds[kind].rules[firing.rule])
-        upward.append(name in ('rq_up', 'rq_up_self'))
-    anchors = {}
-    for t in set(numbers):
-        places = [i for i, other in enumerate(numbers) if other == t]
-        top = min((nodes[history[i].object].level, history[i].object) for i in places)[1]
-        anchors[t] = next(i for i in places if history[i].object == top)
-    moved = {}
-    for i, t in enumerate(numbers):
-        if upward[i] and i < anchors[t]:
-            moved.setdefault(anchors[t], []).append(i)
-    late = {i for places in moved.values() for i in places}
-    order = []
-    for i in range(len(history)):
-        if i not in late:
-            order += moved.get(i, []) + [i]
-    return order
-
-
-def printed_order(protocol, nodes, history, numbers):
-    """The blocks, each a number with its firings."""
-    order = normal_order(protocol, nodes, history, numbers)
-    before = {t: set() for t in numbers}
-    seen = {}
-    for i in order:
-        earlier = seen.setdefault((history[i].line, history[i].object), [])
-        before[numbers[i]].update(t for t in earlier if t != numbers[i])
-        earlier.append(numbers[i])
-    left, blocks = set(numbers), []
-    while True:
-        ready = [t for t in left if not before[t] & left]
-        if not ready:
-            return blocks
-        t = min(ready)
-        left.remove(t)
-        blocks.append((t, [history[i] for i in order if numbers[i] == t]))
-
-
-# Texts
+# The printed order
 
 def firing_text(firing):
     text = '%d %d %s' % (firing.line, firing.object, firing.rule)
@@ -496,37 +363,68 @@ def replay(protocol, state, history):
     return numbers, None
 
 
+class Refused(Exception):
+    """A protocol that isn't disciplined, with its refusal."""
+
+
+def check(text):
+    """The status and the lines for the text of a protocol."""
+    protocol = Reader(text).protocol_alone()
+    refuse_undisciplined(protocol)
+    return 0, accepted_lines(protocol)
+
+
+def refuse_undisciplined(protocol):
+    refusal = first_broken(protocol)
+    if refusal is not None:
+        raise Refused(refusal)
+
+
 def group(text):
-    """The status and the lines for the text of a document."""
+    """The status and the lines for the text of a document with a history."""
+    protocol, nodes, work, history = Reader(text).document()
+    refuse_undisciplined(protocol)
+    check_tree(nodes)
+    check_work(work, protocol, nodes)
+    state = start_state(protocol, nodes, work)
+    _numbers, illegal = replay(protocol, state, history)
+    if illegal is not None:
+        return 8, ['illegal %d' % illegal] + state_lines(state)
+    import grouping  # stands on this module
+    blocks = grouping.grouped(protocol, nodes, work, history).blocks
+    return 0, ['quiet' if quiet(state) else 'open'] + block_lines(blocks) + state_lines(state)
+
+
+JOBS = {'check': check, 'group': group}
+
+
+def verdict(job, text):
+    """The status and the lines for a job and the text of its document."""
     try:
-        protocol, nodes, work, history = Reader(text).document()
-        check_tree(nodes)
-        check_work(work, protocol, nodes)
+        return JOBS[job](text)
     except Fault as fault:
         line, column = place_of(text, fault.start)
         return 5 if fault.job == 'text' else 7, ['%s %d:%d %s' % (fault.job, line, column, fault.cause)]
-    state = start_state(protocol, nodes, work)
-    numbers, illegal = replay(protocol, state, history)
-    if illegal is not None:
-        return 8, ['illegal %d' % illegal] + state_lines(state)
-    lines = ['quiet' if quiet(state) else 'open']
-    if is_one_step(protocol):
-        lines += block_lines(printed_order(protocol, nodes, history, numbers))
-    return 0, lines + state_lines(state)
+    except Refused as refused:
+        return 6, [refusal_text(refused.args[0])]
+
+
+def are_good(words_given):
+    return len(words_given) == 1 and words_given[0] in JOBS
 
 
 def answer(words_given, data):
     """The status and the text for the words after the program's name and the bytes of its input."""
-    if words_given != ['group']:
-        return 1, 'usage: hem group\n'
+    if not are_good(words_given):
+        return 1, 'usage: hem check|group\n'
     if len(data) > INPUT_LIMIT:
         return 4, 'too long\n'
-    status, lines = group(data.decode('latin-1'))
+    status, lines = verdict(words_given[0], data.decode('latin-1'))
     return status, '\n'.join(lines) + '\n'
 
 
 def main():
-    status, text = answer(sys.argv[1:], sys.stdin.buffer.read() if sys.argv[1:] == ['group'] else b'')
+    status, text = answer(sys.argv[1:], sys.stdin.buffer.read() if are_good(sys.argv[1:]) else b'')
     sys.stdout.write(text)
     sys.stdout.flush()
     sys.exit(status)

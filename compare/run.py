@@ -2,7 +2,8 @@
 
     python3 run.py PROGRAM [--seed N] [--count N] [--kind KIND] [--keep DIRECTORY]
 
-Two workers share the documents. Each difference is told, and its document kept in a file.
+Two workers share the documents. Each difference is told, and its document kept in a file. With
+`--kind` all of the count are of that kind: `--kind verdicts --count 20000` is for `hem check`.
 """
 import argparse
 import collections
@@ -43,30 +44,34 @@ class Program:
         return os.waitstatus_to_exitcode(status), self.output.read()
 
 
-def part_of(kind, seed, count, worker):
-    """A worker's documents of a kind: of a fixed kind every second one, else its own."""
-    share = next(share for name, _, share in make.KINDS if name == kind)
-    if share is None:
+def part_of(kind, seed, number, worker):
+    """A worker's documents of a kind: of a fixed kind, which has no number, every second one, else its own."""
+    if number is None:
         return itertools.islice(make.documents(kind, seed, 0), worker, None, WORKERS)
-    return make.documents(kind, seed * WORKERS + worker, int(share * count / WORKERS))
+    return make.documents(kind, seed * WORKERS + worker, number // WORKERS)
 
 
 def label(status, text):
-    """A status, and with a fault its cause."""
-    cause = text.rstrip('\n').split(' ', 2)[2:] if status in (5, 7) else []
+    """A status, with a fault its cause, and with a refusal its clause and how a partner breaks it."""
+    words = text.split('\n')[0].split(' ')
+    cause = words[2:] if status in (5, 7) else words[3:4] if status == 6 else []
+    if cause == ['stable']:
+        fields = [word for word in words if '=' in word and not word.startswith('kids=')]
+        cause += [words[1], 'pair' if 'then' in words else 'rule', 'fields' if fields else 'no fields']
     return ' '.join(['status %d' % status] + cause)
 
 
 def compare(task):
     """One worker's documents of one kind: their number, their statuses, and the differences."""
-    path, keep, kind, seed, count, worker = task
+    path, keep, kind, seed, number, worker = task
     program = Program(path)
+    words = next([job] for name, _, _, job in make.KINDS if name == kind)
     statuses, differences, told, made = collections.Counter(), 0, [], 0
     begun = time.time()
-    for document in part_of(kind, seed, count, worker):
+    for document in part_of(kind, seed, number, worker):
         made += 1
-        expected, text = reference.answer(['group'], document)
-        got, output = program.answer(['group'], document)
+        expected, text = reference.answer(words, document)
+        got, output = program.answer(words, document)
         statuses[label(expected, text)] += 1
         if (got, output) != (expected, text.encode('latin-1')):
             differences += 1
@@ -88,14 +93,16 @@ def kept(keep, kind, seed, worker, place, document, expected, got):
 
 
 def words_differ(path):
-    """The differences on words that aren't the job."""
+    """The differences on words: those of a job, and those that are no job's."""
     program, wrong = Program(path), []
-    lists = [[], ['group', 'group'], ['frob'], ['--json'], ['group', '--json'], ['check'], ['run'], ['walk'], ['emit'],
+    lists = [[], ['group'], ['check'], ['group', 'group'], ['check', 'group'], ['check', 'check'], ['frob'], ['--json'],
+             ['group', '--json'], ['check', '--json'], ['run'], ['walk'], ['emit'],
              ['play'], ['make'], ['group', '--seed', '1'], ['group', ''], [''], ['Group'], ['group '], ['--', 'group'],
-             ['watch'], ['mux'], ['migrate'], ['--help'], ['-h'], ['--version']]
+             ['Check'], ['check|group'], ['watch'], ['mux'], ['migrate'], ['--help'], ['-h'], ['--version']]
     for words in lists:
-        expected, text = reference.answer(words, b'')
-        if program.answer(words, texts.data(texts.SMALL)) != (expected, text.encode()):
+        document = texts.data(texts.SMALL)
+        expected, text = reference.answer(words, document)
+        if program.answer(words, document) != (expected, text.encode()):
             wrong.append(words)
     return len(lists), wrong
 
@@ -105,21 +112,22 @@ def main():
     parser.add_argument('program')
     parser.add_argument('--seed', type=int, default=1)
     parser.add_argument('--count', type=int, default=100000)
-    parser.add_argument('--kind', choices=[name for name, _, _ in make.KINDS], help='only this kind')
+    parser.add_argument('--kind', choices=[name for name, _, _, _ in make.KINDS], help='only this kind')
     parser.add_argument('--keep', help='the directory for the documents that differ')
     args = parser.parse_args()
     keep = args.keep or os.path.join(tempfile.gettempdir(), 'hem-differences')
     path = os.path.abspath(args.program)
     number, wrong = words_differ(path)
     print('words: %d lists, %d differences %s' % (number, len(wrong), wrong or ''))
-    kinds = [args.kind] if args.kind else [name for name, _, _ in make.KINDS]
-    tasks = [(path, keep, kind, args.seed, args.count, worker) for kind in kinds for worker in range(WORKERS)]
+    numbers = {name: share and int(args.count * (1 if args.kind else share)) for name, _, share, _ in make.KINDS}
+    kinds = [args.kind] if args.kind else list(numbers)
+    tasks = [(path, keep, kind, args.seed, numbers[kind], worker) for kind in kinds for worker in range(WORKERS)]
     total, bad = 0, len(wrong)
     with multiprocessing.Pool(WORKERS) as pool:
         for kind, made, statuses, differences, told, seconds in pool.imap(compare, tasks, chunksize=1):
             if made:
                 table = ', '.join('%s: %d' % pair for pair in sorted(statuses.items()))
-                print('%-9s %6d documents, %d differences, %.0f s (%s)' % (kind, made, differences, seconds, table))
+                print('%-17s %6d documents, %d differences, %.0f s (%s)' % (kind, made, differences, seconds, table))
                 for line in told:
                     print('  ' + line)
                 sys.stdout.flush()

@@ -22,7 +22,7 @@ pub struct Node {
     pub kind: Kind,
     pub parent: Option<usize>,
     pub children: Vec<usize>,
-    level: usize,
+    pub level: usize,
     start: usize,
 }
 

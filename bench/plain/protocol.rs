@@ -45,6 +45,16 @@ pub enum Kind {
     Leaf,
 }
 
+impl Kind {
+    pub fn name(self) -> &'static str {
+        match self {
+            Kind::Root => "root",
+            Kind::Mid => "mid",
+            Kind::Leaf => "leaf",
+        }
+    }
+}
+
 #[derive(Clone, Copy)]
 pub enum Take {
     Me(MessageId),
@@ -128,6 +138,7 @@ pub struct Send {
 }
 
 pub struct Rule {
+    pub name: RuleId,
     pub take: Take,
     pub up: Need,
     pub down: Need,
@@ -142,11 +153,26 @@ pub struct Rule {
 pub struct Part {
     pub fields: Vec<(String, Status)>,
     pub dir: Option<Status>,
-    /// The rules by the numbers of their names.
-    pub rules: HashMap<RuleId, Rule>,
+    /// The rules in the order of the text.
+    pub rules: Vec<Rule>,
+    /// For each number of a name the place of the rule of that name.
+    rule_at: Vec<Option<usize>>,
 }
 
 impl Part {
+    pub fn rule(&self, name: RuleId) -> Option<&Rule> {
+        self.rule_at.get(name as usize).copied().flatten().map(|place| &self.rules[place])
+    }
+
+    fn add(&mut self, rule: Rule) {
+        let name = rule.name as usize;
+        if self.rule_at.len() <= name {
+            self.rule_at.resize(name + 1, None);
+        }
+        self.rule_at[name] = Some(self.rules.len());
+        self.rules.push(rule);
+    }
+
     fn field(&self, name: &[u8]) -> Option<u8> {
         self.fields.iter().position(|(other, _)| other.as_bytes() == name).map(|place| place as u8)
     }
@@ -274,7 +300,7 @@ impl Protocol {
     }
 
     fn read_part(&mut self, tokens: &mut Tokens, has_directory: bool) -> Result<Part, Fault> {
-        let mut part = Part { fields: Vec::new(), dir: None, rules: HashMap::new() };
+        let mut part = Part { fields: Vec::new(), dir: None, rules: Vec::new(), rule_at: Vec::new() };
         let mut token = tokens.next();
         while token.is("field") {
             if part.fields.len() >= MOST_FIELDS {
@@ -298,9 +324,10 @@ impl Protocol {
             if part.rules.len() >= MOST_RULES {
                 return Err(token.fault("too many"));
             }
-            let name = tokens.new_name(|name| self.rule(name).is_some_and(|id| part.rules.contains_key(&id)))?;
-            let rule = self.read_rule(tokens, &part)?;
-            part.rules.insert(self.rule_id(name), rule);
+            let name = tokens.new_name(|name| self.rule(name).is_some_and(|id| part.rule(id).is_some()))?;
+            let mut rule = self.read_rule(tokens, &part)?;
+            rule.name = self.rule_id(name);
+            part.add(rule);
             token = tokens.next();
         }
         if token.is("end") { Ok(part) } else { Err(token.expected()) }
@@ -337,8 +364,8 @@ impl Protocol {
         let up = tokens.one_of(&NEEDS)?;
         tokens.word("down")?;
         let down = tokens.one_of(&NEEDS)?;
-        let mut rule =
-            Rule { take, up, down, guard: Vec::new(), sets: Vec::new(), free: None, lock: None, send: None };
+        let (guard, sets) = (Vec::new(), Vec::new());
+        let mut rule = Rule { name: 0, take, up, down, guard, sets, free: None, lock: None, send: None };
         let mut token = tokens.next();
         if token.is("when") {
             token = self.read_guard(tokens, part, &mut rule.guard)?;

@@ -1,7 +1,8 @@
 //! The texts of answers.
 
-use crate::document::Document;
-use crate::protocol::{Assign, Atom, Class, Goal, Kind, Need, Protocol, Rule, Take, Value};
+use crate::document::{Document, Firing};
+use crate::order::Transactions;
+use crate::protocol::{Kind, Protocol};
 use crate::system::{By, Lock, Message, Object, System};
 use std::fmt::Write;
 
@@ -10,46 +11,21 @@ macro_rules! put {
     ($text:expr, $($arguments:tt)*) => { let _ = write!($text, $($arguments)*); };
 }
 
-/// Whether a leaf's rule answers its processor at once, as the discipline wants it.
-fn answers_at_once(protocol: &Protocol, rule: &Rule) -> bool {
-    let Take::Me(taken) = rule.take else {
-        return false;
-    };
-    let Some(send) = rule.send else {
-        return false;
-    };
-    let fits = |value: &Value| !matches!(value, Value::Kept | Value::Rs);
-    let classes = (protocol.class(taken), protocol.class(send.message));
-    classes == (Class::ExtReq, Class::ExtRsp)
-        && matches!(send.goal, Goal::Me)
-        && rule.free.is_none()
-        && rule.lock.is_none()
-        && (rule.up, rule.down) == (Need::Free, Need::Free)
-        && rule.guard.iter().all(|atom| matches!(atom, Atom::Field(_, _)))
-        && rule.sets.iter().all(|set| match set {
-            Assign::Field(_, _) => true,
-            Assign::Val(value) => fits(value),
-            Assign::Me(_) | Assign::Targets(_) => false,
-        })
-        && fits(&send.value)
+fn put_firing(text: &mut String, document: &Document, firing: &Firing) {
+    put!(text, "{} {} {}", firing.line, firing.object, document.protocol.rule_names[firing.rule as usize]);
+    if let Some(child) = firing.from {
+        put!(text, " from {child}");
+    }
+    text.push('\n');
 }
 
-/// Whether each firing is a transaction of its own.
-fn is_one_step(protocol: &Protocol) -> bool {
-    protocol.part(Kind::Root).rules.is_empty()
-        && protocol.part(Kind::Mid).rules.is_empty()
-        && protocol.part(Kind::Leaf).rules.values().all(|rule| answers_at_once(protocol, rule))
-}
-
-fn put_blocks(text: &mut String, document: &Document) {
-    put!(text, "blocks {}\n", document.history.len());
-    for (number, firing) in document.history.iter().enumerate() {
-        let rule = &document.protocol.rule_names[firing.rule as usize];
-        put!(text, "block {number}\n{} {} {rule}", firing.line, firing.object);
-        if let Some(child) = firing.from {
-            put!(text, " from {child}");
+fn put_blocks(text: &mut String, document: &Document, transactions: &Transactions, printed: &[u32]) {
+    put!(text, "blocks {}\n", printed.len());
+    for &number in printed {
+        put!(text, "block {number}\n");
+        for place in transactions.in_normal_order(number) {
+            put_firing(text, document, &document.history[place as usize]);
         }
-        text.push('\n');
     }
 }
 
@@ -82,12 +58,7 @@ fn put_lock(text: &mut String, protocol: &Protocol, children: &[usize], lock: Op
 fn put_object(text: &mut String, document: &Document, place: usize, object: &Object) {
     let protocol = &document.protocol;
     let node = &document.nodes[place];
-    let kind = match node.kind {
-        Kind::Root => "root",
-        Kind::Mid => "mid",
-        Kind::Leaf => "leaf",
-    };
-    put!(text, "{place} {kind}");
+    put!(text, "{place} {}", node.kind.name());
     for ((name, _), status) in protocol.part(node.kind).fields.iter().zip(&object.fields) {
         put!(text, " {name}={}", protocol.statuses[*status as usize]);
     }
@@ -131,17 +102,15 @@ fn put_state(text: &mut String, document: &Document, system: &System) {
 }
 
 /// The text where the history runs.
-pub fn done(document: &Document, system: &System) -> String {
+pub fn done(document: &Document, system: &System, transactions: &Transactions, printed: &[u32]) -> String {
     let mut text = String::from(if system.is_quiet() { "quiet\n" } else { "open\n" });
-    if is_one_step(&document.protocol) {
-        put_blocks(&mut text, document);
-    }
+    put_blocks(&mut text, document, transactions, printed);
     put_state(&mut text, document, system);
     text
 }
 
 /// The text where the firing at this place isn't possible.
-pub fn illegal(document: &Document, system: &System, place: usize) -> String {
+pub fn illegal(document: &Document, system: &System, place: u32) -> String {
     let mut text = format!("illegal {place}\n");
     put_state(&mut text, document, system);
     text

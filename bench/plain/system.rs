@@ -1,6 +1,6 @@
 //! States and firings.
 
-use crate::document::{Document, Firing};
+use crate::document::{Document, Firing, Request};
 use crate::protocol::{
     Assign, Atom, Class, Goal, Kind, MessageId, Need, Origin, Protocol, Rule, Side, Status, StatusSet, Take, Value,
 };
@@ -10,6 +10,8 @@ use std::collections::VecDeque;
 pub struct Message {
     pub id: MessageId,
     pub value: u64,
+    /// The number of the transaction that sent it; of no account where a processor did.
+    number: u32,
 }
 
 /// For whom a lock is held, and for whom a rule works. A child is named by its place among the children.
@@ -51,6 +53,15 @@ pub struct Object {
     pub answers: VecDeque<Message>,
 }
 
+/// What is told of a firing that was made.
+#[derive(Clone, Copy)]
+pub struct Fired {
+    /// The number of its transaction, which is the place of that one's first firing.
+    pub number: u32,
+    /// Whether it sends a request up; in an accepted protocol just the rules that do so take the uplock.
+    pub is_upward: bool,
+}
+
 pub struct System {
     pub lines: Vec<Vec<Object>>,
 }
@@ -58,6 +69,8 @@ pub struct System {
 /// What a rule can name at an object; what doesn't exist is `None`.
 #[derive(Default)]
 struct View {
+    /// The number of the transaction to which the firing belongs.
+    number: u32,
     requester: Option<By>,
     msg: Option<Message>,
     kept: Option<Message>,
@@ -98,31 +111,42 @@ fn need_holds(need: Need, lock: &Option<Lock>) -> bool {
 }
 
 impl View {
-    /// The view where the rule can take what it takes.
-    fn new(line: &[Object], children: &[usize], here: &Object, rule: &Rule, from: Option<usize>) -> Option<View> {
+    /// The view where the rule can take what it takes, for a firing at this place of the history.
+    fn new(
+        line: &[Object],
+        children: &[usize],
+        here: &Object,
+        rule: &Rule,
+        from: Option<usize>,
+        place: u32,
+    ) -> Option<View> {
         match rule.take {
             Take::Me(id) => {
                 let list = from.map_or(&here.requests, |place| &line[children[place]].up_requests);
+                let message = head(list, id)?;
+                let number = from.map_or(place, |_| message.number);
                 let requester = Some(from.map_or(By::Processor, By::Child));
-                Some(View { requester, msg: Some(head(list, id)?), ..View::default() })
+                Some(View { number, requester, msg: Some(message), ..View::default() })
             }
             Take::Parent(id) => {
-                let msg = Some(head(&here.from_parent, id)?);
+                let message = head(&here.from_parent, id)?;
                 let requester = here.up.map(|lock| lock.by).filter(|by| matches!(by, By::Processor | By::Child(_)));
-                Some(View { requester, msg, kept: here.up.map(|lock| lock.request), ..View::default() })
+                let kept = here.up.map(|lock| lock.request);
+                Some(View { number: message.number, requester, msg: Some(message), kept, ..View::default() })
             }
             Take::Kids(id) => {
                 let lock = here.down?;
-                let mut rs = None;
+                let mut first = None;
                 for place in lock.awaited.iter() {
                     let message = head(&line[children[place]].up_responses, id)?;
-                    rs = rs.or(Some(message.value));
+                    first = first.or(Some(message));
                 }
-                rs?;
+                let Message { value, number, .. } = first?;
                 let requester = Some(lock.by).filter(|by| matches!(by, By::Child(_)));
-                Some(View { requester, kept: Some(lock.request), rs, awaited: Some(lock.awaited), msg: None })
+                let (kept, awaited) = (Some(lock.request), Some(lock.awaited));
+                Some(View { number, requester, kept, rs: Some(value), awaited, msg: None })
             }
-            Take::Nothing => Some(View::default()),
+            Take::Nothing => Some(View { number: place, ..View::default() }),
         }
     }
 
@@ -200,7 +224,7 @@ impl View {
         let Some(send) = rule.send else {
             return Some(Sends::Nothing);
         };
-        let message = Message { id: send.message, value: self.value(here, send.value)? };
+        let message = Message { id: send.message, value: self.value(here, send.value)?, number: self.number };
         match send.goal {
             Goal::Me => match self.requester? {
                 By::Child(place) => Some(Sends::Child(place, message)),
@@ -312,10 +336,11 @@ fn plan(
     object: usize,
     rule: &Rule,
     from: Option<usize>,
+    place: u32,
 ) -> Option<Plan> {
     let node = &document.nodes[object];
     let here = &line[object];
-    let view = View::new(line, &node.children, here, rule, from)?;
+    let view = View::new(line, &node.children, here, rule, from, place)?;
     if !need_holds(rule.up, &here.up) || !need_holds(rule.down, &here.down) {
         return None;
     }
@@ -339,22 +364,19 @@ impl System {
         let line = || (0..document.nodes.len()).map(|place| Object::new(document, place)).collect();
         let mut lines: Vec<Vec<Object>> = (0..document.work.lines).map(|_| line()).collect();
         for entry in &document.work.entries {
-            let requests = entry.requests.iter().map(|request| Message { id: request.message, value: request.value });
+            let message = |request: &Request| Message { id: request.message, value: request.value, number: 0 };
+            let requests = entry.requests.iter().map(message);
             lines[entry.line as usize][entry.object as usize].requests.extend(requests);
         }
         System { lines }
     }
 
-    /// Makes a firing, or answers that it isn't possible.
-    pub fn step(&mut self, document: &Document, firing: &Firing) -> bool {
-        self.try_step(document, firing).is_some()
-    }
-
-    fn try_step(&mut self, document: &Document, firing: &Firing) -> Option<()> {
+    /// Makes the firing at a place of the history, where it is possible.
+    pub fn step(&mut self, document: &Document, firing: &Firing, place: u32) -> Option<Fired> {
         let line = self.lines.get_mut(firing.line as usize)?;
         let object = firing.object as usize;
         let node = document.nodes.get(object)?;
-        let rule = document.protocol.part(node.kind).rules.get(&firing.rule)?;
+        let rule = document.protocol.part(node.kind).rule(firing.rule)?;
         let takes_from_child = matches!(rule.take, Take::Me(_)) && node.kind != Kind::Leaf;
         let from = match firing.from {
             Some(child) if takes_from_child => {
@@ -363,9 +385,11 @@ impl System {
             None if !takes_from_child => None,
             _ => return None,
         };
-        let plan = plan(document, line, object, rule, from)?;
+        let plan = plan(document, line, object, rule, from, place)?;
+        let is_upward = matches!(rule.lock, Some((Side::Up, _)));
+        let fired = Fired { number: plan.view.number, is_upward };
         fire(line, &node.children, object, rule, from, plan);
-        Some(())
+        Some(fired)
     }
 
     /// Whether only answers are left and no lock is held.

@@ -13,7 +13,7 @@ def told(protocol, state, history, numbers):
     """The lines for a history that runs to a state."""
     lines = ['The history runs: %s, of %s.'
              % (counted(len(history), 'firing'), counted(len(set(numbers)), 'transaction'))]
-    lines += grouped(protocol) + ending(state) + ['']
+    lines += [regrouped(numbers)] + ending(state) + ['']
     for number, objects in enumerate(state):
         lines.append('Line %d at the end:' % number)
         for place, here in enumerate(objects):
@@ -21,10 +21,12 @@ def told(protocol, state, history, numbers):
     return lines + [''] + possible_lines(protocol, state)
 
 
-def grouped(protocol):
-    if reference.is_one_step(protocol):
-        return ['Every rule of the protocol answers its processor at once, so the answer lists each firing as a block.']
-    return ['The answer lists no blocks, since not every rule of the protocol answers its processor at once.']
+def regrouped(numbers):
+    """What the blocks of the answer are."""
+    places = {number: [place for place, other in enumerate(numbers) if other == number] for number in numbers}
+    if all(own == list(range(own[0], own[0] + len(own))) for own in places.values()):
+        return 'The transactions stand apart in the history, so each block is a part of it.'
+    return 'Transactions interleave; the answer lists them as blocks, one whole after another, which lead to the same state.'
 
 
 def ending(state):
