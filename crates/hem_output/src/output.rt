@@ -13,16 +13,18 @@ use std::marker::Model;
 /// the text.
 #[derive(Drop)]
 pub struct Output {
-    text: String,
+    bytes: Vec<u8>,
 }
 
 impl Model for Output {
     ghost use Rattle.std.specs.Prelude.{List, ℕ};
-    ghost use Rattle.std.specs.String.{string_bytes};
+    ghost use Rattle.std.specs.Str.{IsUtf8};
 
     ghost Value = { List ℕ };
 
-    ghost view = { λ o. string_bytes o.text };
+    ghost view = { λ o. o.bytes.items };
+
+    ghost invariant = { λ o. IsUtf8 o.bytes.items };
 }
 
 impl Output {
@@ -31,7 +33,7 @@ impl Output {
         ensures { result ≡ [] }
     {
         Output {
-            text: String::new(alloc),
+            bytes: Vec::new(alloc),
         }
     }
 
@@ -39,15 +41,15 @@ impl Output {
     pub fn into_string(self) -> String
         ensures { string_bytes result ≡ self }
     {
-        let Output { text } = self;
-        text
+        // What was appended is UTF-8, and so is the whole: it needn't be looked at again.
+        unsafe { String::from_utf8_unchecked(self.bytes) }
     }
 
     /// Appends a text.
     pub fn text(&mut self, text: &str) -> Result<(), OutOfMemory>
         ensures { OnOk result (self.new ≡ self.old ++ text.now) }
     {
-        self.text.push_str(text)?;
+        self.bytes.extend_from_slice(text.as_bytes())?;
         Ok(())
     }
 
@@ -64,10 +66,8 @@ impl Output {
         requires { IsTrue (is_word_text word.now) }
         ensures { OnOk result (self.new ≡ self.old ++ word.now) }
     {
-        match str::from_utf8(word) {
-            Ok(text) => self.text(text),
-            Err(_) => unreachable!("a word is ASCII"),
-        }
+        self.bytes.extend_from_slice(word)?;
+        Ok(())
     }
 
     /// Appends a name that is a word, as every declared name is.

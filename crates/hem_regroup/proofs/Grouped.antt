@@ -47,6 +47,10 @@ grouped_more members k d groups new within were there others t =
     ∙ ap (λ members. firings_in members t) (sym (take-suc members k d within))
     ∙ ap (λ k. firings_in (take k members) t) (sym (add-one k))
 
+-- the same list, whether or not there is one
+pub same_list : (groups new : List (List Firing)) (t : ℕ) → slice_get new t ≡ slice_get groups t → slice_index_or new t [] ≡ slice_index_or groups t []
+same_list groups new t same = sym (unwrap_or-slice_get new t []) ∙ ap (λ o. unwrap_or o []) same ∙ unwrap_or-slice_get groups t []
+
 -- who is out was left
 pub turns_left : (n : ℕ) (waits : ℕ → ℕ → Bool) (left : List ℕ) (u : ℕ) → stands_in (turns n waits left) u ≡ true → stands_in left u ≡ true
 turns_left zero waits left u out = absurd (true≢false (sym out))

@@ -68,30 +68,39 @@ shown-with all place x within = ap (λ members. cond (is_moved all place x) [] (
         ap (λ k. held_from all 0 (take k all) x.number) at ∙ held_all all x.number (subst (λ k. k ≤ length all) at within)
     by_anchor false is = refl
 
+-- only at the anchor it matters what was held back
+shown-held : (at place : ℕ) (x : Numbered) (held other : List Member) → (place ≤ at → held ≡ other) → shown at place x held ≡ shown at place x other
+shown-held at place x held other same = ap (λ those. cond (x.upward && nat_lt place at) [] (those ++ member_at x ∷ [])) (by (place == at) refl)
+  where
+    by : (b : Bool) → (place == at) ≡ b → cond b held [] ≡ cond b other []
+    by true is = same (let at_it = eqb-true place at is in omega (arith, at_it))
+    by false is = refl
+
 members_next : (all : List Numbered) (place : ℕ) (members new : List Member) (held : List (List Member)) → place < length all → IsPlacing all place members held → new ≡ members ++ shown (anchor all (get_or all place no_numbered).number) place (get_or all place no_numbered) (slice_index_or held (get_or all place no_numbered).number []) → new ++ normal_from all (place + 1) (drop (place + 1) all) ≡ normal_members all
 members_next all place members new held within placing pushed =
     let x = get_or all place no_numbered in
     let rest = normal_from all (place + 1) (drop (place + 1) all) in
-    ap (λ new. new ++ rest) (pushed ∙ ap (λ those. members ++ shown (anchor all x.number) place x those) (placing.held_are x.number) ∙ ap (λ more. members ++ more) (shown-with all place x (omega arith)))
+    ap (λ new. new ++ rest) (pushed ∙ ap (λ more. members ++ more) (shown-held (anchor all x.number) place x (slice_index_or held x.number []) (held_from all 0 (take place all) x.number) (placing.held_are x.number)) ∙ ap (λ more. members ++ more) (shown-with all place x (omega arith)))
     ∙ append_assoc members (with_held all place x) rest
     ∙ ap (λ more. members ++ more) (ap (λ k. normal_from all place (x ∷ drop k all)) (add-one place) ∙ ap (normal_from all place) (sym (drop-cons all place no_numbered within)))
     ∙ placing.members_are
 
-held_next : (all : List Numbered) (place : ℕ) (held new : List (List Member)) → place < length all → ((n : ℕ) → slice_index_or held n [] ≡ held_from all 0 (take place all) n) → slice_get new (get_or all place no_numbered).number ≡ Some (slice_index_or held (get_or all place no_numbered).number [] ++ kept (anchor all (get_or all place no_numbered).number) place (get_or all place no_numbered)) → ((t : ℕ) → t ≢ (get_or all place no_numbered).number → slice_get new t ≡ slice_get held t) → (n : ℕ) → slice_index_or new n [] ≡ held_from all 0 (take (place + 1) all) n
-held_next all place held new within were there others n =
+held_next : (all : List Numbered) (place : ℕ) (held new : List (List Member)) → place < length all → ((n : ℕ) → place ≤ anchor all n → slice_index_or held n [] ≡ held_from all 0 (take place all) n) → (place ≢ anchor all (get_or all place no_numbered).number → slice_get new (get_or all place no_numbered).number ≡ Some (slice_index_or held (get_or all place no_numbered).number [] ++ kept (anchor all (get_or all place no_numbered).number) place (get_or all place no_numbered))) → ((t : ℕ) → t ≢ (get_or all place no_numbered).number → slice_get new t ≡ slice_get held t) → (n : ℕ) → place + 1 ≤ anchor all n → slice_index_or new n [] ≡ held_from all 0 (take (place + 1) all) n
+held_next all place held new within were there others n before_anchor =
     let x = get_or all place no_numbered in
     let before = held_from all 0 (take place all) n in
+    let so_far : slice_index_or held n [] ≡ before = were n (omega (arith, before_anchor)) in
     ⊎_elim
     (λ (same : x.number ≡ n).
     ap (λ n. slice_index_or new n []) (sym same)
-    ∙ get_or_from_slice_get new x.number (slice_index_or held x.number [] ++ kept (anchor all x.number) place x) [] there
-    ∙ ap (λ members. members ++ kept (anchor all x.number) place x) (ap (λ n. slice_index_or held n []) same ∙ were n)
+    ∙ get_or_from_slice_get new x.number (slice_index_or held x.number [] ++ kept (anchor all x.number) place x) [] (there (λ is. let same_anchor : anchor all x.number ≡ anchor all n = ap (anchor all) same in omega (arith, is, same_anchor, before_anchor)))
+    ∙ ap (λ members. members ++ kept (anchor all x.number) place x) (ap (λ n. slice_index_or held n []) same ∙ so_far)
     ∙ ap (λ b. before ++ cond (b && is_moved all place x) (member_at x ∷ []) []) (sym (eq-eqb x.number n same)))
     (λ (other : x.number ≢ n).
     sym (unwrap_or-slice_get new n [])
     ∙ ap (λ o. unwrap_or o []) (others n (λ same. other (sym same)))
     ∙ unwrap_or-slice_get held n []
-    ∙ were n
+    ∙ so_far
     ∙ sym (append-nil before)
     ∙ ap (λ b. before ++ cond (b && is_moved all place x) (member_at x ∷ []) []) (sym (ne_eqb x.number n other)))
     (cases_eq x.number n)
@@ -102,11 +111,11 @@ held_next all place held new within were there others n =
     ∙ ap (λ k. held_from all 0 (take k all) n) (sym (add-one place))
 
 -- one firing more
-pub placing_next : (all : List Numbered) (place at : ℕ) (members new_members : List Member) (held new_held : List (List Member)) → place < length all → IsPlacing all place members held → at ≡ anchor all (get_or all place no_numbered).number → new_members ≡ members ++ shown at place (get_or all place no_numbered) (slice_index_or held (get_or all place no_numbered).number []) → slice_get new_held (get_or all place no_numbered).number ≡ Some (slice_index_or held (get_or all place no_numbered).number [] ++ kept at place (get_or all place no_numbered)) → ((t : ℕ) → t ≢ (get_or all place no_numbered).number → slice_get new_held t ≡ slice_get held t) → length new_held ≡ length held → IsPlacing all (place + 1) new_members new_held
+pub placing_next : (all : List Numbered) (place at : ℕ) (members new_members : List Member) (held new_held : List (List Member)) → place < length all → IsPlacing all place members held → at ≡ anchor all (get_or all place no_numbered).number → new_members ≡ members ++ shown at place (get_or all place no_numbered) (slice_index_or held (get_or all place no_numbered).number []) → (place ≢ at → slice_get new_held (get_or all place no_numbered).number ≡ Some (slice_index_or held (get_or all place no_numbered).number [] ++ kept at place (get_or all place no_numbered))) → ((t : ℕ) → t ≢ (get_or all place no_numbered).number → slice_get new_held t ≡ slice_get held t) → length new_held ≡ length held → IsPlacing all (place + 1) new_members new_held
 placing_next all place at members new_members held new_held within placing is pushed there others size =
     let x = get_or all place no_numbered in
     record {
       members_are = members_next all place members new_members held within placing (pushed ∙ ap (λ at. members ++ shown at place x (slice_index_or held x.number [])) is);
       held_size = size ∙ placing.held_size;
-      held_are = held_next all place held new_held within placing.held_are (there ∙ ap (λ at. Some (slice_index_or held x.number [] ++ kept at place x)) is) others;
+      held_are = held_next all place held new_held within placing.held_are (λ away. there (λ here. away (here ∙ is)) ∙ ap (λ at. Some (slice_index_or held x.number [] ++ kept at place x)) is) others;
     }

@@ -1,19 +1,18 @@
 //! The blocks of transactions in their order.
 
-ghost use Rattle.std.specs.Prelude.{◌≡◌, ◌≢◌, ℕ, ◌<◌, [], length, slice_index_or, true, map, IfOk};
+ghost use Rattle.std.specs.Prelude.{◌≡◌, ℕ, ◌<◌, [], length, slice_index_or, true, map, IfOk};
 ghost use Rattle.hem_law.specs.Orders.{stands_in};
 ghost use Rattle.hem_regroup.specs.Members.{IsBelow, IsWhole};
 ghost use Rattle.hem_regroup.specs.Ready.{Ascends};
 ghost use Rattle.hem_regroup.specs.Out.{AreOnce};
 ghost use Rattle.hem_regroup.specs.Printed.{firings_in, block_among, blocks_of};
 
-use crate::lists::{append, empty_lists};
+use crate::lists::{append, empty_lists, take_out};
 use crate::member::Member;
 use crate::order::printed_order;
 use hem_base::{Firing, List, OutOfMemory};
 use hem_trace::Block;
 use std::alloc::Global;
-use std::mem;
 
 /// The firings of each of so many transactions, in the order of the members.
 fn group(alloc: Global, count: usize, members: &[Member]) -> Result<List<List<Firing>>, OutOfMemory>
@@ -26,17 +25,6 @@ fn group(alloc: Global, count: usize, members: &[Member]) -> Result<List<List<Fi
         append(&mut groups, member.number, member.firing)?;
     }
     Ok(groups)
-}
-
-/// Takes a transaction's firings out of the lists.
-fn take_out(alloc: Global, groups: &mut List<List<Firing>>, number: usize) -> List<Firing>
-    requires { number < length groups.old }
-    ensures taken { result ≡ slice_index_or groups.old number [] }
-    ensures others { (t : ℕ) → t ≢ number → slice_index_or groups.new t [] ≡ slice_index_or groups.old t [] }
-    ensures size { length groups.new ≡ length groups.old }
-{
-    let firings = groups.at_mut(number);
-    mem::replace(firings, List::new(alloc))
 }
 
 /// The blocks of transactions, of the firings of each.

@@ -73,6 +73,7 @@ impl Graph {
     /// Adds the link to the member at a place from the last member at its object.
     fn add(
         &mut self,
+        alloc: Global,
         last: &mut LastNumbers,
         members: &[Member],
         place: usize,
@@ -84,7 +85,7 @@ impl Graph {
         ensures { OnOk result (IsBuilt (length self.old.nexts) (members_before (place + 1) members.now) self.new.nexts self.new.counts.items last.new) }
     {
         let member = members[place];
-        let from = last.replace(member)?;
+        let from = last.replace(alloc, member)?;
         self.join(from, member.number)
     }
 
@@ -96,7 +97,7 @@ impl Graph {
         let mut last = LastNumbers::new(alloc);
         let mut graph = Graph::new(alloc, count)?;
         for place in 0..members.len() {
-            graph.add(&mut last, members, place)?;
+            graph.add(alloc, &mut last, members, place)?;
         }
         Ok(graph)
     }

@@ -4,6 +4,7 @@ ghost use Rattle.std.specs.Prelude.{◌≡◌, ◌≢◌, ℕ, ◌<◌, [], ◌�
 
 use hem_base::{List, OutOfMemory};
 use std::alloc::Global;
+use std::mem;
 
 /// Of so many numbers, lists with nothing in them.
 pub(crate) fn empty_lists<T: Drop>(
@@ -13,7 +14,7 @@ pub(crate) fn empty_lists<T: Drop>(
     ensures size { IfOk result (λ lists. length lists ≡ count) }
     ensures none { IfOk result (λ lists. (n : ℕ) → slice_index_or lists n [] ≡ []) }
 {
-    let mut lists = List::new(alloc);
+    let mut lists = List::from_vec(Vec::with_capacity(alloc, count)?);
     for _n in 0..count {
         lists.push(List::new(alloc))?;
     }
@@ -33,4 +34,15 @@ pub(crate) fn append<T: Drop>(
 {
     let list = lists.at_mut(number);
     list.push(item)
+}
+
+/// Takes a number's list out, and leaves one with nothing in it.
+pub(crate) fn take_out<T: Drop>(alloc: Global, lists: &mut List<List<T>>, number: usize) -> List<T>
+    requires { number < length lists.old }
+    ensures taken { result ≡ slice_index_or lists.old number [] }
+    ensures others { (n : ℕ) → n ≢ number → slice_get lists.new n ≡ slice_get lists.old n }
+    ensures size { length lists.new ≡ length lists.old }
+{
+    let list = lists.at_mut(number);
+    mem::replace(list, List::new(alloc))
 }

@@ -3,7 +3,7 @@
 ghost use Rattle.std.specs.Prelude.{cond, ◌∷◌, ◌≡◌, ◌≢◌, ℕ, ◌+◌, ◌<◌, nat_lt, ◌&&◌, [], ◌++◌, length, None, Some, slice_get, slice_index_or, IfOk, OnOk};
 ghost use Rattle.hem_regroup.specs.Normal.{member_at, shown, kept, top_from, normal_members, AreBelow, IsPlacing};
 
-use crate::lists::{append, empty_lists};
+use crate::lists::{append, empty_lists, take_out};
 use crate::member::Member;
 use crate::numbered::Numbered;
 use crate::tops::{Top, all_tops, place_of};
@@ -27,24 +27,9 @@ fn is_moved(anchor: usize, place: usize, x: Numbered) -> bool
     x.upward && place < anchor
 }
 
-/// Puts a member after the others, and before it, at an anchor, those that were held back.
-fn show(
-    members: &mut Vec<Member>,
-    held: &[Member],
-    is_anchor: bool,
-    member: Member,
-) -> Result<(), OutOfMemory>
-    ensures { OnOk result (members.new.items ≡ members.old.items ++ (cond is_anchor held.now [] ++ member ∷ [])) }
-{
-    if is_anchor {
-        members.extend_from_slice(held)?;
-    }
-    members.push(member)?;
-    Ok(())
-}
-
-/// Holds the firing at a place back, or puts it after the others.
+/// Holds the firing at a place back, or puts it after the others: at an anchor those that were held back come before it.
 fn place_one(
+    alloc: Global,
     members: &mut Vec<Member>,
     held: &mut List<List<Member>>,
     anchor: usize,
@@ -53,20 +38,25 @@ fn place_one(
 ) -> Result<(), OutOfMemory>
     requires { x.number < length held.old }
     ensures members { OnOk result (members.new.items ≡ members.old.items ++ shown anchor place x (slice_index_or held.old x.number [])) }
-    ensures there { OnOk result (slice_get held.new x.number ≡ Some (slice_index_or held.old x.number [] ++ kept anchor place x)) }
+    ensures there { OnOk result (place ≢ anchor → slice_get held.new x.number ≡ Some (slice_index_or held.old x.number [] ++ kept anchor place x)) }
     ensures others { OnOk result ((t : ℕ) → t ≢ x.number → slice_get held.new t ≡ slice_get held.old t) }
     ensures size { length held.new ≡ length held.old }
 {
     if is_moved(anchor, place, x) {
         append(held, x.number, member_at(x))
     } else {
-        let those = &held.as_slice()[x.number];
-        show(members, those.as_slice(), place == anchor, member_at(x))
+        if place == anchor {
+            let those = take_out(alloc, held, x.number);
+            members.extend_from_slice(those.as_slice())?;
+        }
+        members.push(member_at(x))?;
+        Ok(())
     }
 }
 
 /// Places the firing at a place.
 fn place_next(
+    alloc: Global,
     members: &mut Vec<Member>,
     held: &mut List<List<Member>>,
     tops: &[Option<Top>],
@@ -82,7 +72,7 @@ fn place_next(
 {
     let x = all[place];
     let anchor = place_of(tops[x.number]);
-    place_one(members, held, anchor, place, x)
+    place_one(alloc, members, held, anchor, place, x)
 }
 
 /// The firings in their normal order: each upward request that stands before its transaction's anchor is moved to just
@@ -93,9 +83,9 @@ pub(crate) fn normal_order(alloc: Global, all: &[Numbered]) -> Result<Vec<Member
 {
     let tops = all_tops(alloc, all)?;
     let mut held = empty_lists(alloc, all.len())?;
-    let mut members = Vec::new(alloc);
+    let mut members = Vec::with_capacity(alloc, all.len())?;
     for place in 0..all.len() {
-        place_next(&mut members, &mut held, tops.as_slice(), all, place)?;
+        place_next(alloc, &mut members, &mut held, tops.as_slice(), all, place)?;
     }
     Ok(members)
 }

@@ -28,7 +28,7 @@ pub(crate) fn printed_order(
     let Graph { nexts, mut counts } = Graph::of(alloc, count, members)?;
     let followers = nexts.into_vec();
     let mut ready = first_ready(alloc, left, counts.as_slice())?;
-    let mut out = Vec::new(alloc);
+    let mut out = Vec::with_capacity(alloc, left.len())?;
     for _turn in 0..left.len() {
         match ready.pop_first() {
             None => return Ok(out),

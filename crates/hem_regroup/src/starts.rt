@@ -16,10 +16,10 @@ use std::alloc::Global;
 fn all_starts(alloc: Global, all: &[Numbered]) -> Result<Vec<usize>, OutOfMemory>
     ensures { IfOk result (λ numbers. numbers.items ≡ starts 0 all.now) }
 {
-    let mut numbers = Vec::new(alloc);
-    for place in 0..all.len() {
-        if place == all[place].number {
-            numbers.push(all[place].number)?;
+    let mut numbers = Vec::with_capacity(alloc, all.len())?;
+    for (place, x) in all.iter().enumerate() {
+        if place == x.number {
+            numbers.push(place)?;
         }
     }
     Ok(numbers)

@@ -1,2 +1,3 @@
 pub mod DeclaredNames
 pub mod Tables
+pub mod Guesses

@@ -1,7 +1,8 @@
 //! Tables of names, in which a name is found by hash.
 
-ghost use Rattle.std.specs.Prelude.{◌≡◌, [], ◌∷◌, ◌++◌, length, map, false, OnOk, OnErr, slice_get, option_copied};
+ghost use Rattle.std.specs.Prelude.{◌≡◌, [], ◌∷◌, ◌++◌, length, map, false, OnOk, OnErr, IfSome, Some, ◌<◌, slice_get, option_copied};
 ghost use Rattle.std.specs.Option.{option_map};
+ghost use Rattle.std.specs.Str.{bytes_eq};
 ghost use Rattle.hem_syntax.specs.Names.{place_in, is_in, place_among, is_among, with_last};
 
 use hem_base::{Name, OutOfMemory};
@@ -9,10 +10,37 @@ use indexmap::{IndexMap, IndexSet};
 use std::alloc::Global;
 use std::marker::Model;
 
-/// Names in order of declaration, found by hash.
+/// Names in order of declaration. A name is found by a guess, or else by hash.
 #[derive(Debug, Drop)]
 pub struct Names {
     names: IndexSet<Name>,
+    /// For each hint the place, modulo 256, of the last name with that hint. Most names have a hint to themselves.
+    guesses: [u8; 256],
+}
+
+/// The hint of a text: texts with different hints differ.
+fn hint_of(text: &[u8]) -> usize
+    ensures { result < 256 }
+{
+    let hint = text
+        .iter()
+        .fold(0, |hint: u8, b| hint.wrapping_mul(31).wrapping_add(*b));
+    usize::from(hint)
+}
+
+/// Whether two short texts are the same.
+fn are_same(first: &[u8], second: &[u8]) -> bool
+    ensures { result ≡ bytes_eq first.now second.now }
+{
+    if first.len() != second.len() {
+        return false;
+    }
+    for place in 0..first.len() {
+        if first[place] != second[place] {
+            return false;
+        }
+    }
+    true
 }
 
 impl Model for Names {
@@ -33,6 +61,7 @@ impl Names {
     {
         Names {
             names: IndexSet::new(alloc),
+            guesses: [0; 256],
         }
     }
 
@@ -57,14 +86,36 @@ impl Names {
         self.names.get_index(at)
     }
 
-    /// The place of a name, where it is declared. It takes no memory.
-    pub fn place(&self, text: &[u8]) -> Option<usize>
+    /// The place of a name, where the guess for it is right.
+    fn guessed(&self, text: &[u8]) -> Option<usize>
+        ensures { IfSome result (λ place. place_in self.now text.now ≡ Some place) }
+    {
+        let place = usize::from(self.guesses[hint_of(text)]);
+        let names = self.names.as_slice();
+        match names.get(place) {
+            Some(name) if are_same(name.as_bytes(), text) => Some(place),
+            _ => None,
+        }
+    }
+
+    /// The place of a name by its hash.
+    fn hashed(&self, text: &[u8]) -> Option<usize>
         ensures { result ≡ place_in self.now text.now }
     {
         let names = &self.names;
         match Name::from_slice(text) {
             Some(name) => names.get_index_of(&name),
             None => None,
+        }
+    }
+
+    /// The place of a name, where it is declared. It takes no memory.
+    pub fn place(&self, text: &[u8]) -> Option<usize>
+        ensures { result ≡ place_in self.now text.now }
+    {
+        match self.guessed(text) {
+            Some(place) => Some(place),
+            None => self.hashed(text),
         }
     }
 
@@ -85,7 +136,10 @@ impl Names {
         ensures ok { OnOk result (self.new ≡ self.old ++ name ∷ []) }
         ensures err { OnErr result (self.new ≡ self.old) }
     {
+        let hint = hint_of(name.as_bytes());
+        let place = self.names.len();
         self.names.insert(name)?;
+        self.guesses[hint] = (place % 256) as u8;
         Ok(())
     }
 }

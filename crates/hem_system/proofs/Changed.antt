@@ -176,7 +176,7 @@ unchanged m cell =
       answers = append-nil cell.answers i;
     }
 
-stays : (takes reaches : Lane → Bool) (m : Message) (cell : Cell) → ((lane : Lane) → takes lane ≡ false) → ((lane : Lane) → reaches lane ≡ false) → cell_changed takes reaches m cell ≡ cell
+pub stays : (takes reaches : Lane → Bool) (m : Message) (cell : Cell) → ((lane : Lane) → takes lane ≡ false) → ((lane : Lane) → reaches lane ≡ false) → cell_changed takes reaches m cell ≡ cell
 stays takes reaches m cell takes_none reaches_none = (λ i. cell_changed (λ lane. takes_none lane i) (λ lane. reaches_none lane i) m cell) ∙ unchanged m cell
 
 -- so the lists of other objects than the one that fires and its children stay

@@ -1,5 +1,5 @@
 -- Room in the lists of a line, and lists changed: the object that fires, and its children one after another.
-use Rattle.std.proofs.Common.{◌≡◌, ◌≢◌, ◌∙◌, refl, sym, ap, subst, ℕ, ◌+◌, ◌<◌, ◌≤◌, arith, Bool, true, false, cond, List, length, Some, None, Option, Result, Ok, Err, OnOk, zero-add, ⊎_elim, inl, inr, ◌⊎◌}
+use Rattle.std.proofs.Common.{◌≡◌, ◌≢◌, ◌∙◌, refl, sym, ap, subst, ℕ, ◌+◌, ◌<◌, ◌≤◌, arith, Bool, true, false, cond, ◌||◌, List, [], ◌∷◌, zero, suc, length, Some, None, Option, Result, Ok, Err, OnOk, zero-add, ⊎_elim, inl, inr, ◌⊎◌}
 use Rattle.std.specs.Prelude.{slice_get, slice_set, is_ok}
 use Rattle.std.specs.Option.{option_map_or}
 use Rattle.std.proofs.str.Laws.{order}
@@ -8,19 +8,22 @@ use Rattle.std.proofs.lemmas.Option.{slice_get-map, slice_get_within, slice_get_
 use Rattle.hem_base.specs.declared.ids.Firing.{Firing}
 use Rattle.hem_base.specs.declared.outside.OutOfMemory.{OutOfMemory}
 use Rattle.hem_fire.specs.declared.outs.To.{To}
+use Rattle.hem_fire.specs.declared.outs.To.TheVariants as send
 use Rattle.hem_fire.specs.declared.outs.Outs.{Outs}
 use Rattle.hem_tree.specs.Tree.{Tree, is_child, children_of, IsLawful}
 use Rattle.hem_system.specs.declared.cell.Cell.{Cell as Kept}
+use Rattle.hem_system.specs.declared.lane.Lane.{Lane}
+use Rattle.hem_system.specs.declared.lane.Lane.TheVariants.{UpRequests, UpResponses, Down, Requests, Answers}
 use Rattle.hem_system.specs.declared.lists.Stand.{Stand}
 use Rattle.hem_system.specs.declared.lists.Stand.TheVariants.{Own, Child}
 use Rattle.hem_system.specs.State.{Cell, Line, map_each, reaches}
 use Rattle.hem_system.specs.Cells.{seen, line_of}
-use Rattle.hem_system.specs.Lists.{Stands, reaches_at, changed_at, lists_after, so_far, below_after, change_one, is_met, HasRoom, HaveRoom, HaveRoomBelow, sends_below, meets_below}
+use Rattle.hem_system.specs.Lists.{Stands, takes_at, reaches_at, changed_at, is_changed_at, lists_after, so_far, below_after, change_one, is_met, HasRoom, HaveRoom, HaveRoomBelow, sends_below, meets_below}
 use Rattle.hem_system.specs.Steps.{IsRoomMade, IsChanged}
 use Rattle.hem_system.proofs.Sets.{get_set_here, get_set_other, map-set_alike, map_each-alike, map_each-none, change_one-each, each-change_one}
 use Rattle.hem_system.proofs.Kids.{at_child}
 use Rattle.hem_system.proofs.Meeting.{met_none, met_other, met_not_yet, met_now, met_all}
-use Rattle.hem_system.proofs.Changed.{own_not_child, child_differs, child_not_own, not_same, changed_at-is, room_for, room_at, no_room, not_reached, not_reached_below, lists_stay, lists_stay_below}
+use Rattle.hem_system.proofs.Changed.{own_not_child, child_differs, child_not_own, not_same, changed_at-is, room_for, room_at, no_room, not_reached, not_reached_below, stays, lists_stay, lists_stay_below}
 
 same_or_not : (a b : ℕ) → (a ≡ b) ⊎ (a ≢ b)
 same_or_not a b = ⊎_elim (λ less. inr (omega arith)) (λ le. ⊎_elim (λ more. inr (omega arith)) (λ same. inl (omega arith)) (order b a)) (order a b)
@@ -112,6 +115,57 @@ pub change-absent : (f : Firing) (outs : Outs) (at : Stand) (k : ℕ) (cells : L
 change-absent f outs at k cells past =
     let none : slice_get (line_of cells) k ≡ None = rw (slice_get-map seen cells k, slice_get_past cells k past) refl in
     sym (ap (λ (o : Option Cell). option_map_or (λ x. slice_set (line_of cells) k (changed_at f outs at x)) o (line_of cells)) none)
+
+-- nor where the firing takes nothing from it and sends nothing to it
+none_of_three : (a b c : Bool) → (a || b || c) ≡ false → (a ≡ false) × (b ≡ false) × (c ≡ false)
+none_of_three true b c h = cc
+none_of_three false true c h = cc
+none_of_three false false true h = cc
+none_of_three false false false h = (refl, refl, refl)
+
+other_lanes : (to : To) (object place : ℕ) → (reaches_at to (Child object place) UpRequests ≡ false) × (reaches_at to (Child object place) UpResponses ≡ false) × (reaches_at to (Child object place) Requests ≡ false) × (reaches_at to (Child object place) Answers ≡ false)
+other_lanes send.Answer object place = (refl, refl, refl, refl)
+other_lanes send.UpRequest object place = (refl, refl, refl, refl)
+other_lanes send.UpResponse object place = (refl, refl, refl, refl)
+other_lanes (send.Kid c) object place = (refl, refl, refl, refl)
+other_lanes (send.Kids set) object place = (refl, refl, refl, refl)
+other_lanes send.Nobody object place = (refl, refl, refl, refl)
+
+none_taken : (f : Firing) (outs : Outs) (object place : ℕ) → is_changed_at f outs (Child object place) ≡ false → (lane : Lane) → takes_at f outs (Child object place) lane ≡ false
+none_taken f outs object place none UpRequests = (none_of_three _ _ (reaches_at outs.to (Child object place) Down) none).0
+none_taken f outs object place none UpResponses = (none_of_three (takes_at f outs (Child object place) UpRequests) _ (reaches_at outs.to (Child object place) Down) none).1
+none_taken f outs object place none Down = refl
+none_taken f outs object place none Requests = refl
+none_taken f outs object place none Answers = refl
+
+none_reached : (f : Firing) (outs : Outs) (object place : ℕ) → is_changed_at f outs (Child object place) ≡ false → (lane : Lane) → reaches_at outs.to (Child object place) lane ≡ false
+none_reached f outs object place none UpRequests = (other_lanes outs.to object place).0
+none_reached f outs object place none UpResponses = (other_lanes outs.to object place).1
+none_reached f outs object place none Down = (none_of_three (takes_at f outs (Child object place) UpRequests) (takes_at f outs (Child object place) UpResponses) _ none).2
+none_reached f outs object place none Requests = (other_lanes outs.to object place).2
+none_reached f outs object place none Answers = (other_lanes outs.to object place).3
+
+untouched : (f : Firing) (outs : Outs) (at : Stand) (cell : Cell) → is_changed_at f outs at ≡ false → changed_at f outs at cell ≡ cell
+untouched f outs Own cell none = cc
+untouched f outs (Child object place) cell none =
+    stays (takes_at f outs (Child object place)) (reaches_at outs.to (Child object place)) outs.message cell (none_taken f outs object place none) (none_reached f outs object place none)
+
+set_same : {A : Type 0} (xs : List A) (k : ℕ) (x y : A) → slice_get xs k ≡ Some x → y ≡ x → slice_set xs k y ≡ xs
+set_same [] k x y at same = refl
+set_same (z ∷ xs) zero x y at same =
+    let here : z ≡ x = cc in
+    ap (λ w. w ∷ xs) (same ∙ sym here)
+set_same (z ∷ xs) (suc k) x y at same = ap (λ l. z ∷ l) (set_same xs k x y at same)
+
+change_none : {A : Type 0} (k : ℕ) (g : A → A) (xs : List A) → ((x : A) → g x ≡ x) → change_one k g xs ≡ xs
+change_none {A} k g xs same = by (slice_get xs k) refl
+  where
+    by : (o : Option A) → slice_get xs k ≡ o → option_map_or (λ x. slice_set xs k (g x)) o xs ≡ xs
+    by None is = refl
+    by (Some x) is = set_same xs k x (g x) is (same x)
+
+pub change-untouched : (f : Firing) (outs : Outs) (at : Stand) (k : ℕ) (cells : List Kept) → is_changed_at f outs at ≡ false → line_of cells ≡ change_one k (changed_at f outs at) (line_of cells)
+change-untouched f outs at k cells none = sym (change_none k (changed_at f outs at) (line_of cells) (λ cell. untouched f outs at cell none))
 
 -- an object after the firing, if a test passes
 if_passes : (tree : Tree) (f : Firing) (outs : Outs) (k : ℕ) (cell : Cell) (b c : Bool) → b ≡ c → cond b (lists_after tree f outs k cell) cell ≡ cond c (lists_after tree f outs k cell) cell

@@ -37,6 +37,12 @@ reaches_at (send.Kid c) (Child object place) Down = place == c
 reaches_at (send.Kids set) (Child object place) Down = has_bit set.0 place
 reaches_at _ _ _ = false
 
+-- whether a firing may take from the lists of the object that stands so, or send to them: of a child whether it does
+abbrev pub is_changed_at : Firing → Outs → Stand → Bool
+is_changed_at f outs Own = true
+is_changed_at f outs (Child object place) =
+    takes_at f outs (Child object place) UpRequests || takes_at f outs (Child object place) UpResponses || reaches_at outs.to (Child object place) Down
+
 -- a list after its head is taken and a message is appended, where that is so
 abbrev pub list_changed : Bool → Bool → Message → List Message → List Message
 list_changed takes sends m messages = drop (cond takes 1 0) messages ++ cond sends (m ∷ []) []

@@ -14,7 +14,7 @@ use crate::cell::Cell;
 use crate::children::children_of;
 use crate::event::Event;
 use crate::fault::StepFault;
-use crate::lists::{Stand, meets_below, sends_below};
+use crate::lists::{Stand, is_changed, meets_below, sends_below};
 use crate::possible::{Enabled, enable};
 use hem_base::{Firing, List, OutOfMemory};
 use hem_fire::{Outs, Plan, To};
@@ -104,7 +104,7 @@ fn change_if_there(cells: &mut List<Cell>, object: usize, firing: Firing, outs: 
     ensures changed { line_of cells.new ≡ change_one object (changed_at firing outs.now at) (line_of cells.old) }
     ensures others { (k : ℕ) → k ≢ object → slice_get cells.new k ≡ slice_get cells.old k }
 {
-    if object < cells.len() {
+    if object < cells.len() && is_changed(firing, outs, at) {
         change_at(cells, object, firing, outs, at);
     }
 }

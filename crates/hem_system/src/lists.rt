@@ -3,7 +3,7 @@
 ghost use Rattle.std.specs.Prelude.{◌≡◌, ◌==◌, false, OnOk};
 ghost use Rattle.std.specs.Option.{option_map_or};
 ghost use Rattle.hem_system.specs.Cells.{seen};
-ghost use Rattle.hem_system.specs.Lists.{takes_at, reaches_at, changed_at, sends_below, meets_below, HasRoom};
+ghost use Rattle.hem_system.specs.Lists.{takes_at, reaches_at, changed_at, sends_below, meets_below, HasRoom, is_changed_at};
 
 use crate::cell::Cell;
 use crate::lane::Lane;
@@ -74,6 +74,23 @@ pub(crate) fn meets_below(firing: Firing, outs: &Outs) -> bool
     ensures { result ≡ meets_below firing outs.now }
 {
     outs.taken_request && firing.me.is_some() || outs.taken_kids.0 != 0 || sends_below(outs.to)
+}
+
+/// Whether a firing may take from an object's lists or send to them. Of a child each such list is looked at.
+pub(crate) fn is_changed(firing: Firing, outs: &Outs, at: Stand) -> bool
+    ensures { result ≡ is_changed_at firing outs.now at }
+{
+    match at {
+        Stand::Own => true,
+        Stand::Child {
+            object: _,
+            place: _,
+        } => {
+            takes(firing, outs, at, Lane::UpRequests)
+                || takes(firing, outs, at, Lane::UpResponses)
+                || reaches(outs.to, at, Lane::Down)
+        }
+    }
 }
 
 impl Cell {

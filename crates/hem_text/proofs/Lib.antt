@@ -5,3 +5,5 @@ pub mod Runs
 pub mod Cut
 pub mod FirstFaults
 pub mod Columns
+pub mod OneLook
+pub mod Short

@@ -39,6 +39,10 @@ kind_of_run (b ∷ bs) =
     else if list_all is_ascii_digit (b ∷ bs) then Number
     else Bad
 
+-- the same of a run, by whether its first byte is a letter, and how many bytes come after its first digits
+abbrev pub kind_by : Bool → ℕ → TokenKind
+kind_by letter others = if letter then Word else if others == 0 then Number else Bad
+
 -- n bytes that are no token
 abbrev pub between : ℕ → Piece
 between n = record { kind = None; len = n }

@@ -1,9 +1,9 @@
 //! One piece of a text: a token, or bytes between tokens.
 
-ghost use Rattle.std.specs.Prelude.{◌≡◌, ◌+◌, ◌^◌, ◌<◌, ◌≤◌, length, fold, take};
-ghost use Rattle.std.specs.List.{prefix_len, list_all};
-ghost use Rattle.std.specs.Char.{is_ascii_digit};
-ghost use Rattle.hem_text.specs.Tokens.{is_space, is_sign, is_not_line_feed, is_pair, kind_of_run, piece_of, advance};
+ghost use Rattle.std.specs.Prelude.{◌≡◌, ◌+◌, ◌^◌, ◌<◌, ◌≤◌, true, length, get_or, fold, take};
+ghost use Rattle.std.specs.List.{prefix_len};
+ghost use Rattle.std.specs.Char.{is_ascii_digit, is_ascii_alphabetic};
+ghost use Rattle.hem_text.specs.Tokens.{is_space, is_sign, is_not_line_feed, is_pair, kind_by, run_at, piece_of, advance};
 ghost use Rattle.hem_base.specs.Words.{is_word_byte};
 
 use crate::text::{Piece, Place, TokenKind};
@@ -34,6 +34,14 @@ fn comment_len(bytes: &[u8]) -> usize
     bytes.iter().take_while(|b| **b != b'\n').count()
 }
 
+/// How many digits stand at the front.
+fn digits_len(bytes: &[u8]) -> usize
+    ensures same { result ≡ prefix_len is_ascii_digit bytes.now }
+    ensures within { result ≤ length bytes.now }
+{
+    bytes.iter().take_while(|b| b.is_ascii_digit()).count()
+}
+
 /// How many bytes the run at the front has.
 fn run_len(bytes: &[u8]) -> usize
     ensures same { result ≡ prefix_len is_word_byte bytes.now }
@@ -42,27 +50,32 @@ fn run_len(bytes: &[u8]) -> usize
     bytes.iter().take_while(|b| is_word_byte(**b)).count()
 }
 
-fn all_digits(run: &[u8]) -> bool
-    ensures { result ≡ list_all is_ascii_digit run.now }
+/// What a run is that begins with this byte and has so many bytes after its first digits.
+fn kind_of_run(first: u8, others: usize) -> TokenKind
+    ensures { result ≡ kind_by (is_ascii_alphabetic first) others }
 {
-    run.iter().all(|b| b.is_ascii_digit())
+    if first.is_ascii_alphabetic() {
+        TokenKind::Word
+    } else if others == 0 {
+        TokenKind::Number
+    } else {
+        TokenKind::Bad
+    }
 }
 
-/// What a run of letters, digits and `_` is.
-fn kind_of_run(run: &[u8]) -> TokenKind
-    ensures { result ≡ kind_of_run run.now }
+/// The run at the front, of which each byte is looked at once.
+fn run_at(bytes: &[u8]) -> Piece
+    requires some { 0 < length bytes.now }
+    requires word { is_word_byte (get_or bytes.now 0 0) ≡ true }
+    ensures same { result ≡ run_at bytes.now }
+    ensures within { result.len ≤ length bytes.now }
 {
-    match run {
-        [] => TokenKind::Bad,
-        [first, ..] => {
-            if first.is_ascii_alphabetic() {
-                TokenKind::Word
-            } else if all_digits(run) {
-                TokenKind::Number
-            } else {
-                TokenKind::Bad
-            }
-        }
+    let digits = digits_len(bytes);
+    let others = run_len(&bytes[digits..]);
+    let kind = kind_of_run(bytes[0], others);
+    Piece {
+        kind: Some(kind),
+        len: digits + others,
     }
 }
 
@@ -92,11 +105,7 @@ pub fn piece_at(bytes: &[u8]) -> Piece
             len: comment_len(bytes),
         }
     } else if is_word_byte(first) {
-        let len = run_len(bytes);
-        Piece {
-            kind: Some(kind_of_run(&bytes[..len])),
-            len,
-        }
+        run_at(bytes)
     } else if is_pair(bytes) {
         Piece {
             kind: Some(TokenKind::Sign),

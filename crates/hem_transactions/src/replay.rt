@@ -1,6 +1,6 @@
 //! Replaying a history with the numbers of its transactions.
 
-ghost use Rattle.std.specs.Prelude.{◌≡◌, length, IfOk, IfErr};
+ghost use Rattle.std.specs.Prelude.{◌≡◌, [], length, IfOk, IfErr};
 ghost use Rattle.hem_system.specs.State.{start, Runs};
 ghost use Rattle.hem_system.specs.Faults.{IsReplayFault};
 ghost use Rattle.hem_trace.specs.History.{events};
@@ -9,7 +9,7 @@ ghost use Rattle.hem_transactions.specs.Carried.{HaveLists, Carry};
 
 use crate::line::LineNumbers;
 use crate::lines::{follow, no_messages};
-use hem_base::{Firing, List};
+use hem_base::{Firing, List, OutOfMemory};
 use hem_syntax::Protocol;
 use hem_system::{ReplayFault, StepFault, System};
 use hem_tree::Tree;
@@ -34,6 +34,14 @@ impl NumberedRun {
     }
 }
 
+/// No numbers, with room for so many.
+fn no_numbers(alloc: Global, room: usize) -> Result<List<usize>, OutOfMemory>
+    ensures { IfOk result (λ numbers. numbers ≡ []) }
+{
+    let numbers = Vec::with_capacity(alloc, room)?;
+    Ok(List::from_vec(numbers))
+}
+
 /// Makes the firings of the history in order, from a state in which no message is on its way.
 fn replay_from(
     alloc: Global,
@@ -50,7 +58,7 @@ fn replay_from(
     ensures numbers { IfOk result (λ run. run.numbers.items ≡ numbers_of tree.now (events p.now tree.now system history.now)) }
     ensures refused { IfErr result (IsReplayFault p.now tree.now system history.now) }
 {
-    let mut numbers = List::new(alloc);
+    let mut numbers = no_numbers(alloc, history.len())?;
     for (place, firing) in history.iter().enumerate() {
         match system.step(p, tree, *firing) {
             Ok(event) => {

@@ -22,7 +22,7 @@ loop-turn-init c =
     let counts = c.in_ok-nexts.field-0.counts.items in
     let followers = c.into_vec-followers.result.items in
     let tables = subst (λ nexts. AreTables c.args.count ls nexts counts) (sym c.into_vec-followers.ensures) c.in_ok-nexts.ensures in
-    in_turn_start ls left c.new-out.result.items followers counts c.in_ok-ready.ready c.new-out.ensures.items
+    in_turn_start ls left c.in_ok-out.out.items followers counts c.in_ok-ready.ready c.in_ok-out.ensures.items
     (waiting_start c.args.count members left followers counts c.in_ok-ready.ready c.requires.whole c.requires.ascends c.requires.below tables (λ u. c.in_ok-ready.ensures u ∙ ap (λ xs. stands_in left u && slice_index xs u == 0) c.as_slice.ensures.value))
 
 pub returns-in-None : goal.returns-in-None
