@@ -1,6 +1,7 @@
 -- A load and a store on two lines.
 use Rattle.std.specs.Prelude.{[], ◌∷◌}
 use Rattle.hem_base.specs.declared.ids.Firing.{Firing}
+use Rattle.hem_text.specs.Tokens.{start_place}
 use Rattle.hem_examples.specs.Trees.{wide_mid_and_leaf}
 use Rattle.hem_examples.specs.Examples.{Example, at, at_from, message, free_local, quiet_cell, block}
 use Rattle.hem_examples.specs.Names.{invalid, shared, modified, ld_id, st_id, ldr_id, str_id, gets_hit, getm_hit, gets_up, gets_resp, ld_miss, st_miss, ld_resp, st_resp}
@@ -16,6 +17,7 @@ two_lines =
       tree = wide_mid_and_leaf;
       work =
           record {
+            place = start_place;
             lines = 2;
             self_count = 0;
             requests = ([] ∷ [] ∷ (message ld_id 0 ∷ []) ∷ [] ∷ [] ∷ []) ∷ ([] ∷ [] ∷ [] ∷ [] ∷ (message st_id 9 ∷ []) ∷ []) ∷ [];

@@ -35,7 +35,7 @@ ext_req_alone UpRsp h = absurd cc
 ext_req_alone DownReq h = absurd cc
 ext_req_alone DownRsp h = absurd cc
 
-external_class : (p : Protocol) (id : MsgId) → has_class p id is_ext_req ≡ true → class_of p id ≡ Some ExtReq
+pub external_class : (p : Protocol) (id : MsgId) → has_class p id is_ext_req ≡ true → class_of p id ≡ Some ExtReq
 external_class p id h = go (class_of p id) h
   where
     go : (o : Option Class) → option_map_or is_ext_req o false ≡ true → o ≡ Some ExtReq
@@ -47,7 +47,7 @@ leaf_alone Leaf h = refl
 leaf_alone Root h = absurd cc
 leaf_alone Mid h = absurd cc
 
-leaf_of : (tree : Tree) (o : ℕ) → is_leaf tree o ≡ true → kind_of tree o ≡ Some Leaf
+pub leaf_of : (tree : Tree) (o : ℕ) → is_leaf tree o ≡ true → kind_of tree o ≡ Some Leaf
 leaf_of tree o h = go (kind_of tree o) h
   where
     go : (k : Option Kind) → option_map_or is_leaf_kind k false ≡ true → k ≡ Some Leaf
@@ -55,9 +55,9 @@ leaf_of tree o h = go (kind_of tree o) h
     go (Some k) e = ap Some (leaf_alone k e)
 
 -- an entry of a leaf, with requests of processors alone
-record FitsEntry (p : Protocol) (tree : Tree) (e : RawEntry) : Type 0 where
-  leaf : kind_of tree e.object.0 ≡ Some Leaf
-  external : All (λ r. IsExternal p r.0) e.requests
+pub record FitsEntry (p : Protocol) (tree : Tree) (e : RawEntry) : Type 0 where
+  pub leaf : kind_of tree e.object.0 ≡ Some Leaf
+  pub external : All (λ r. IsExternal p r.0) e.requests
 
 fits_requests : (p : Protocol) (n : ℕ) (rs : List (Message × Place)) → requests_fault p n rs ≡ None → All (λ r. IsExternal p r.0) rs
 fits_requests p n [] h = All-nil (λ (r : Message × Place). IsExternal p r.0)
@@ -87,7 +87,7 @@ external_if : (p : Protocol) (tree : Tree) (b : Bool) (e : RawEntry) → FitsEnt
 external_if p tree true e fits = All-map (IsExternal p) (λ (r : Message × Place). r.0) e.requests fits.external
 external_if p tree false e fits = All-nil (IsExternal p)
 
-external_in : (p : Protocol) (tree : Tree) (line o : ℕ) (es : List RawEntry) → All (FitsEntry p tree) es → All (IsExternal p) (requests_in es line o)
+pub external_in : (p : Protocol) (tree : Tree) (line o : ℕ) (es : List RawEntry) → All (FitsEntry p tree) es → All (IsExternal p) (requests_in es line o)
 external_in p tree line o [] fits = All-nil (IsExternal p)
 external_in p tree line o (e ∷ es) fits =
     All-append (IsExternal p) (messages_for line o e) (requests_in es line o)
@@ -99,7 +99,7 @@ and_second true b h = h
 and_second false b h = absurd cc
 
 -- requests stand at leaves alone
-leaf_in : (p : Protocol) (tree : Tree) (line o : ℕ) (es : List RawEntry) → All (FitsEntry p tree) es → requests_in es line o ≢ [] → kind_of tree o ≡ Some Leaf
+pub leaf_in : (p : Protocol) (tree : Tree) (line o : ℕ) (es : List RawEntry) → All (FitsEntry p tree) es → requests_in es line o ≢ [] → kind_of tree o ≡ Some Leaf
 leaf_in p tree line o [] fits some = absurd (some refl)
 leaf_in p tree line o (e ∷ es) fits some = go (leaf_in p tree line o es (All-tail (FitsEntry p tree) e es fits)) (eqb e.line.0 line && eqb e.object.0 o) refl some
   where

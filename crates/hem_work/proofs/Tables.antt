@@ -17,7 +17,7 @@ map_below f n = map-append f (below n) (n ∷ [])
 pub map_below_more : {X : Type 0} (f : ℕ → X) (n : ℕ) → map f (below (n + 1)) ≡ map f (below n) ++ f n ∷ []
 map_below_more f n = ap (map f) (below_more n) ∙ map-append f (below n) (n ∷ [])
 
-length_map_below : {X : Type 0} (f : ℕ → X) (n : ℕ) → length (map f (below n)) ≡ n
+pub length_map_below : {X : Type 0} (f : ℕ → X) (n : ℕ) → length (map f (below n)) ≡ n
 length_map_below f n = length-map (below n) f ∙ length_below n
 
 pub get_map_below : {X : Type 0} (f : ℕ → X) (n i : ℕ) (d : X) → i < n → get_or (map f (below n)) i d ≡ f i
@@ -29,7 +29,7 @@ get_map_below f (suc n) i d lt =
     (λ high. let same : n ≡ i = omega arith in get_or_at (map f (below n)) (f n) [] d i (length_map_below f n ∙ same) ∙ ap f same)
     (order i n)
 
-map_same : {X : Type 0} (f g : ℕ → X) (n : ℕ) → ((j : ℕ) → j < n → f j ≡ g j) → map f (below n) ≡ map g (below n)
+pub map_same : {X : Type 0} (f g : ℕ → X) (n : ℕ) → ((j : ℕ) → j < n → f j ≡ g j) → map f (below n) ≡ map g (below n)
 map_same f g zero same = refl
 map_same f g (suc n) same =
     map_below f n
@@ -62,7 +62,7 @@ requests_more (x ∷ xs) e line object =
     ap (λ l. messages_for line object x ++ l) (requests_more xs e line object)
     ∙ sym (append_assoc (messages_for line object x) (requests_in xs line object) (messages_for line object e))
 
-eqb_other : (a b : ℕ) → b ≢ a → eqb a b ≡ false
+pub eqb_other : (a b : ℕ) → b ≢ a → eqb a b ≡ false
 eqb_other a b other = go (eqb a b) refl
   where
     go : (t : Bool) → eqb a b ≡ t → t ≡ false
@@ -72,7 +72,7 @@ eqb_other a b other = go (eqb a b) refl
 other_line : (e : RawEntry) (line object : ℕ) → line ≢ e.line.0 → messages_for line object e ≡ []
 other_line e line object other = rw (eqb_other e.line.0 line other) refl
 
-and_false : (b : Bool) → (b && false) ≡ false
+pub and_false : (b : Bool) → (b && false) ≡ false
 and_false true = refl
 and_false false = refl
 

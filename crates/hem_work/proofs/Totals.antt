@@ -1,5 +1,5 @@
 -- How many requests a work has in all.
-use Rattle.std.proofs.Common.{◌≡◌, ℕ, zero, suc, ◌+◌, ◌*◌, ◌≤◌, ◌<◌, Bool, true, false, cond, eqb, not, ◌&&◌, List, [], ◌∷◌, ◌++◌, length, get_or, refl, sym, ap, ◌∙◌, subst, arith, None, length-append}
+use Rattle.std.proofs.Common.{◌≡◌, ℕ, zero, suc, ◌+◌, ◌*◌, ◌≤◌, Bool, true, false, cond, eqb, not, ◌&&◌, List, [], ◌∷◌, length, get_or, refl, sym, ap, ◌∙◌, subst, arith, None, length-append}
 use Rattle.std.specs.Prelude.{map, sum_by, nat_le, nat_lt}
 use Rattle.std.specs.Option.{option_or}
 use Rattle.std.proofs.lemmas.Bool.{eqb-true, leb-false, ltb-false}
@@ -17,11 +17,11 @@ use Rattle.hem_work.specs.Work.{requests_of, requests_on, requests_in_all}
 use Rattle.hem_work.specs.Building.{messages_if, messages_for, requests_in, row_of, table_of, work_of, fault_if, request_count, starts_of, request_fault, requests_fault, heading_fault, entry_fault, entries_fault, counts_fault, starts_fault, first_fault}
 use Rattle.hem_work.proofs.FirstFault.{neither, no_fault}
 
-sum_map : {X Y : Type 0} (g : Y → ℕ) (f : X → Y) (xs : List X) → sum_by g (map f xs) ≡ sum_by (λ x. g (f x)) xs
+pub sum_map : {X Y : Type 0} (g : Y → ℕ) (f : X → Y) (xs : List X) → sum_by g (map f xs) ≡ sum_by (λ x. g (f x)) xs
 sum_map g f [] = refl
 sum_map g f (x ∷ xs) = sum_by-cons g (f x) (map f xs) ∙ ap (λ n. g (f x) + n) (sum_map g f xs) ∙ sym (sum_by-cons (λ y. g (f y)) x xs)
 
-sum_plus : (f g : ℕ → ℕ) (xs : List ℕ) → sum_by (λ k. f k + g k) xs ≡ sum_by f xs + sum_by g xs
+pub sum_plus : (f g : ℕ → ℕ) (xs : List ℕ) → sum_by (λ k. f k + g k) xs ≡ sum_by f xs + sum_by g xs
 sum_plus f g [] = refl
 sum_plus f g (x ∷ xs) =
     let here = sum_by-cons (λ k. f k + g k) x xs in
@@ -39,7 +39,7 @@ sum_le f g (x ∷ xs) less =
     let here = less x in
     omega (arith, left, right, rest, here)
 
-sum_zero : (xs : List ℕ) → sum_by (λ k. 0) xs ≡ 0
+pub sum_zero : (xs : List ℕ) → sum_by (λ k. 0) xs ≡ 0
 sum_zero [] = refl
 sum_zero (x ∷ xs) = let here = sum_by-cons (λ k. 0) x xs in let rest = sum_zero xs in omega (arith, here, rest)
 
@@ -88,7 +88,7 @@ own_in_all e lines objects =
     omega (arith, less, most)
 
 -- how many requests entries have on the lines and objects
-abbrev counted : List RawEntry → ℕ → ℕ → ℕ
+abbrev pub counted : List RawEntry → ℕ → ℕ → ℕ
 counted es lines objects = sum_by (λ line. sum_by (λ o. length (requests_in es line o)) (below objects)) (below lines)
 
 counted_none : (lines objects : ℕ) → counted [] lines objects ≡ 0
@@ -101,7 +101,7 @@ counted_more e es lines objects =
     ∙ (λ i. sum_by (λ line. sum_plus (own e line) (λ o. length (requests_in es line o)) (below objects) i) (below lines))
     ∙ sum_plus (λ line. sum_by (own e line) (below objects)) (λ line. sum_by (λ o. length (requests_in es line o)) (below objects)) (below lines)
 
-counted_le : (es : List RawEntry) (lines objects : ℕ) → counted es lines objects ≤ request_count es
+pub counted_le : (es : List RawEntry) (lines objects : ℕ) → counted es lines objects ≤ request_count es
 counted_le [] lines objects = let none = counted_none lines objects in omega (arith, none)
 counted_le (e ∷ es) lines objects =
     let more = counted_more e es lines objects in
@@ -119,7 +119,7 @@ table_le es lines objects =
     omega (arith, rows, each, le)
 
 -- what one element counts is no more than what all count
-one_of_all : {X : Type 0} (f : X → ℕ) (xs : List X) (i : ℕ) (d : X) → f d ≡ 0 → f (get_or xs i d) ≤ sum_by f xs
+pub one_of_all : {X : Type 0} (f : X → ℕ) (xs : List X) (i : ℕ) (d : X) → f d ≡ 0 → f (get_or xs i d) ≤ sum_by f xs
 one_of_all f [] i d none = omega (arith, none)
 one_of_all f (x ∷ xs) zero d none = let all = sum_by-cons f x xs in omega (arith, all)
 one_of_all f (x ∷ xs) (suc i) d none = let all = sum_by-cons f x xs in let rest = one_of_all f xs i d none in omega (arith, all, rest)
@@ -152,7 +152,7 @@ pub record Counts (raw : RawWork) (objects : ℕ) : Type 0 where
 within : (t c x m n : ℕ) → t ≤ c → 0 + c ≤ m → c + x ≤ n → (t ≤ m) × (t + x ≤ n)
 within t c x m n le few all = (omega arith, omega arith)
 
-le_trans : (a b c m : ℕ) → a ≤ b → b ≤ c → c ≤ m → a ≤ m
+pub le_trans : (a b c m : ℕ) → a ≤ b → b ≤ c → c ≤ m → a ≤ m
 le_trans a b c m ab bc cm = omega arith
 
 pub counts : (raw : RawWork) (p : Protocol) (tree : Tree) → first_fault raw p tree ≡ None → Counts raw (length tree)

@@ -43,6 +43,7 @@ table_of entries lines objects = map (row_of entries objects) (below lines)
 abbrev pub work_of : RawWork → ℕ → Work
 work_of raw objects =
     record {
+      place = raw.place;
       lines = raw.lines.0;
       self_count = raw.self_count.0;
       requests = table_of raw.entries raw.lines.0 objects;

@@ -5,3 +5,5 @@ pub mod Work
 pub mod Building
 pub mod Entries
 pub mod Lawful
+pub mod Generator
+pub mod Made

@@ -1,9 +1,11 @@
 -- A work: what is to be done on each line.
 use Rattle.std.specs.Prelude.{ℕ, List, [], length, sum_by, slice_index_or}
 use Rattle.hem_base.specs.declared.ids.Message.{Message}
+use Rattle.hem_text.specs.declared.text.Place.{Place}
 
--- what is to be done: how many lines, how many self firings each object may make on a line, and the requests by line and object
+-- what is to be done: how many lines, how many self firings each object may make on a line, and the requests by line and object; and where the word `work` of its text stands
 pub record Work : Type 0 where
+  pub place : Place
   pub lines : ℕ
   pub self_count : ℕ
   pub requests : List (List (List Message))

@@ -14,7 +14,7 @@ use hem_text::Place;
 use hem_tree::{SetupCause, SetupFault, Tree};
 
 /// A fault, where its rule is broken.
-fn fault_if(broken: bool, cause: SetupCause, place: Place) -> Option<SetupFault>
+pub(crate) fn fault_if(broken: bool, cause: SetupCause, place: Place) -> Option<SetupFault>
     ensures { result ≡ fault_if broken cause place }
 {
     if broken {
@@ -34,7 +34,7 @@ fn is_ext_req(class: Class) -> bool
 }
 
 /// Whether a message is a request of a processor.
-fn is_external(p: &Protocol, id: MsgId) -> bool
+pub(crate) fn is_external(p: &Protocol, id: MsgId) -> bool
     ensures { result ≡ has_class p.now id is_ext_req }
 {
     match p.class(id) {
@@ -53,7 +53,7 @@ fn is_leaf_kind(kind: Kind) -> bool
 }
 
 /// Whether an object is there and is a leaf.
-fn is_leaf(tree: &Tree, object: u32) -> bool
+pub(crate) fn is_leaf(tree: &Tree, object: u32) -> bool
     ensures { result ≡ is_leaf tree.now object }
 {
     if object < tree.objects() {

@@ -1,12 +1,15 @@
 //! The requests of each line and object.
 
-ghost use Rattle.std.specs.Prelude.{◌≡◌, ◌++◌, ◌<◌, [], length, map, slice_index_or, All, IfOk, OnOk};
+ghost use Rattle.std.specs.Prelude.{◌≡◌, ◌++◌, ◌<◌, ◌∷◌, [], length, map, slice_index_or, All, IfOk, OnOk};
 ghost use Rattle.hem_tree.specs.Tree.{below};
 ghost use Rattle.hem_work.specs.Building.{table_of};
-ghost use Rattle.hem_work.specs.Entries.{with_entry, IsPlaced};
+ghost use Rattle.hem_work.specs.Entries.{with_entry, with_request, own_table, IsPlaced};
+ghost use Rattle.hem_work.specs.Work.{requests_of};
 
+use crate::made::LeafRequest;
 use crate::raw::RawEntry;
-use hem_base::{List, Message, OutOfMemory};
+use crate::work::Work;
+use hem_base::{LineId, List, Message, ObjectId, OutOfMemory};
 use hem_text::Place;
 use std::alloc::Global;
 
@@ -29,6 +32,20 @@ fn add_entry(rows: &mut List<List<List<Message>>>, entry: &RawEntry) -> Result<(
     let row = rows.at_mut(entry.line.0 as usize);
     let list = row.at_mut(entry.object.0 as usize);
     append(list, entry.requests.as_slice())
+}
+
+/// Puts a request at the end of its line's and leaf's. After an error it isn't there.
+pub fn add_request(
+    rows: &mut List<List<List<Message>>>,
+    request: LeafRequest,
+) -> Result<(), OutOfMemory>
+    requires line { request.line < length rows.old }
+    requires leaf { request.leaf < length (slice_index_or rows.old request.line []) }
+    ensures { OnOk result (rows.new ≡ with_request rows.old request) }
+{
+    let row = rows.at_mut(request.line as usize);
+    let list = row.at_mut(request.leaf as usize);
+    list.push(request.message)
 }
 
 /// No requests of so many objects.
@@ -71,6 +88,50 @@ pub fn rows_of(
     let mut rows = empty_rows(alloc, lines, objects)?;
     for entry in entries {
         add_entry(&mut rows, entry)?;
+    }
+    Ok(rows)
+}
+
+/// A copy of messages.
+fn copied(alloc: Global, messages: &[Message]) -> Result<List<Message>, OutOfMemory>
+    ensures { IfOk result (λ list. list ≡ messages.now) }
+{
+    let mut list = List::new(alloc);
+    for message in messages {
+        list.push(*message)?;
+    }
+    Ok(list)
+}
+
+/// A copy of the requests of so many objects on a line.
+fn own_row(
+    alloc: Global,
+    work: &Work,
+    line: u32,
+    objects: u32,
+) -> Result<List<List<Message>>, OutOfMemory>
+    ensures { IfOk result (λ row. row ≡ map (requests_of work.now line) (below objects)) }
+{
+    let mut row = List::new(alloc);
+    for o in 0..objects {
+        let list = copied(alloc, work.requests(ObjectId(o), LineId(line)))?;
+        row.push(list)?;
+    }
+    Ok(row)
+}
+
+/// A copy of the requests of each line and so many objects.
+pub fn own_rows(
+    alloc: Global,
+    work: &Work,
+    objects: u32,
+) -> Result<List<List<List<Message>>>, OutOfMemory>
+    ensures { IfOk result (λ rows. rows ≡ own_table work.now objects) }
+{
+    let mut rows = List::new(alloc);
+    for line in 0..work.lines() {
+        let row = own_row(alloc, work, line, objects)?;
+        rows.push(row)?;
     }
     Ok(rows)
 }
