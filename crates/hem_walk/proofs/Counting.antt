@@ -1,6 +1,6 @@
 -- The self firings that are counted at each position.
-use Rattle.std.proofs.Common.{◌≡◌, ◌≢◌, refl, sym, ap, ◌∙◌, ℕ, ◌+◌, ◌<◌, ◌≤◌, arith, Bool, true, false, ◌&&◌, cond, List, [], ◌∷◌, ◌++◌, length, Option, Some, None, eqb-true}
-use Rattle.std.specs.Prelude.{◌==◌, count_by, option_and_then, slice_get}
+use Rattle.std.proofs.Common.{◌≡◌, refl, sym, ap, ◌∙◌, ℕ, ◌+◌, arith, Bool, true, false, ◌&&◌, cond, List, [], ◌∷◌, ◌++◌, Option, Some, None}
+use Rattle.std.specs.Prelude.{◌==◌, count_by, option_and_then}
 use Rattle.std.specs.Option.{option_map_or}
 use Rattle.std.proofs.lemmas.List.Sums.{sum_by-append}
 use Rattle.hem_base.specs.declared.ids.Firing.{Firing}
@@ -11,7 +11,6 @@ use Rattle.hem_syntax.specs.declared.rule.Take.TheVariants as take
 use Rattle.hem_syntax.specs.Protocol.{Protocol, rule_named}
 use Rattle.hem_tree.specs.Tree.{Tree, kind_of}
 use Rattle.hem_system.specs.Ended.{takes_nothing, is_self, is_at, self_firings, Within}
-use Rattle.hem_rows.proofs.Choices.{both}
 use Rattle.hem_bound.specs.Starts as bound
 use Rattle.hem_bound.proofs.States.{count_more}
 

@@ -1,3 +1,7 @@
+pub mod Begun
+pub mod Bits
+pub mod Marked
+pub mod Apart
 pub mod Finding
 pub mod Positions
 pub mod Counting

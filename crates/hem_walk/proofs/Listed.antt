@@ -1,5 +1,5 @@
 -- Each possible firing is among those that a walk tries.
-use Rattle.std.proofs.Common.{◌≡◌, refl, sym, ap, ◌∙◌, ℕ, ◌<◌, ◌≤◌, arith, Bool, true, false, ◌&&◌, not, cond, List, [], ◌∷◌, length, map, Option, Some, None, eqb-true}
+use Rattle.std.proofs.Common.{◌≡◌, refl, sym, ap, ◌∙◌, ℕ, ◌<◌, ◌≤◌, arith, Bool, true, false, ◌&&◌, not, cond, List, [], length, map, Option, Some, None, eqb-true}
 use Rattle.std.specs.Prelude.{◌==◌, find, nat_le, slice_get, option_map, is_some}
 use Rattle.std.specs.List.{flat_map}
 use Rattle.std.specs.Option.{option_map_or}
@@ -17,7 +17,7 @@ use Rattle.hem_system.proofs.Own.{came}
 use Rattle.hem_system.proofs.Kids.{passes_at}
 use Rattle.hem_system.proofs.Takers.{parent_is}
 use Rattle.hem_rows.proofs.Choices.{both, if_some, if_mapped, if_passed, found-passes}
-use Rattle.hem_walk.specs.Walk.{firing_of, named, firings_of_rule, rules_of, firings_at, is_spent, is_ready, ready_at, IsThere, IsOver}
+use Rattle.hem_walk.specs.Walk.{firing_of, named, firings_of_rule, rules_of, firings_at, is_spent, is_ready, IsThere, IsOver}
 use Rattle.hem_walk.proofs.Finding.{mapped_none, flat_none}
 
 -- an object with a kind is there

@@ -9,7 +9,7 @@ use Rattle.hem_base.specs.declared.ids.Firing.{Firing}
 use Rattle.hem_syntax.specs.Protocol.{Protocol}
 use Rattle.hem_tree.specs.Tree.{Tree, IsLawful}
 use Rattle.hem_system.specs.State.{State}
-use Rattle.hem_walk.specs.Walk.{positions, position, distance, ready_at, IsThere, IsTurn, IsOver}
+use Rattle.hem_walk.specs.Walk.{positions, position, distance, IsThere, IsTurn, IsOver}
 use Rattle.hem_walk.specs.Working.{NoneReady, IsFirst}
 
 -- how far it is to a position that isn't before, and to one that is
@@ -100,6 +100,6 @@ pub nones_left : (p : Protocol) (tree : Tree) (k : ℕ) (h : List Firing) (s : S
 nones_left p tree k h s from None after before = none_left p tree k h s from after before
 nones_left p tree k h s from (Some f) after before = tt
 
--- and a state with a line has a position
-pub some_position : (tree : Tree) (s : State) → IsLawful tree → 0 < length s → 0 < positions tree s
-some_position tree s lawful some = let inside = below_all tree s 0 0 (record { line = some; object = some_object tree lawful }) in omega arith
+-- and where there is no position the walk is over
+pub nowhere : (p : Protocol) (tree : Tree) (k : ℕ) (h : List Firing) (s : State) → positions tree s ≡ 0 → IsOver p tree k h s
+nowhere p tree k h s none = record { none = λ l o there. absurd (let inside = below_all tree s l o there in omega (arith, inside, none)) }

@@ -1,21 +1,20 @@
 -- A walk so far: at the start, and after one turn more.
-use Rattle.std.proofs.Common.{◌≡◌, refl, sym, ap, ◌∙◌, subst, ℕ, zero, suc, ◌+◌, ◌-◌, ◌*◌, ◌<◌, ◌≤◌, arith, Bool, true, false, ◌&&◌, not, List, [], ◌∷◌, ◌++◌, length, Option, Some, None, add-one, length-append, ⊎_elim, inl, inr, ◌⊎◌}
-use Rattle.std.specs.Prelude.{◌%◌, nat_le, take, slice_get, count_by, is_some}
-use Rattle.std.proofs.str.Laws.{order}
+use Rattle.std.proofs.Common.{◌≡◌, refl, sym, ap, ◌∙◌, subst, ℕ, zero, suc, ◌+◌, ◌*◌, ◌<◌, arith, true, false, ◌&&◌, not, List, [], ◌∷◌, ◌++◌, length, Some, add-one, length-append, ⊎_elim, inl, inr, ◌⊎◌}
+use Rattle.std.specs.Prelude.{◌%◌, nat_le, take, slice_get, is_some}
 use Rattle.std.proofs.lemmas.Bool.Decides.{nat_tests}
 use Rattle.std.proofs.lemmas.List.{take-append-le}
 use Rattle.hem_base.specs.declared.ids.Firing.{Firing}
 use Rattle.hem_syntax.specs.Protocol.{Protocol}
 use Rattle.hem_tree.specs.Tree.{Tree, IsTree}
 use Rattle.hem_work.specs.Work.{Work}
-use Rattle.hem_system.specs.State.{State, Fires, Runs, start, fire}
+use Rattle.hem_system.specs.State.{State, Runs, start, fire}
 use Rattle.hem_system.specs.Ended.{is_self, self_firings}
 use Rattle.hem_system.proofs.Runs.{Runs-snoc, run_once}
 use Rattle.hem_rows.specs.Rows.{AllHaveTemplates}
 use Rattle.hem_rows.proofs.Choices.{both, not-true, found-passes}
 use Rattle.hem_bound.specs.Starts as bound
 use Rattle.hem_bound.proofs.Further.{within_further, further_few}
-use Rattle.hem_walk.specs.Generator.{draw_after, draw_of, next_number, number_after}
+use Rattle.hem_work.specs.Generator.{draw_after, draw_of, next_number, number_after}
 use Rattle.hem_walk.specs.Walk.{positions, is_spent, is_ready, firings_at, IsTurn, AreTurns}
 use Rattle.hem_walk.specs.Working.{Walking, IsNext, IsSoFar}
 use Rattle.hem_walk.proofs.Counting.{counts_same, self_is}

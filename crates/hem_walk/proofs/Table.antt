@@ -1,5 +1,5 @@
 -- The table of the self firings: at the start, and with one firing more.
-use Rattle.std.proofs.Common.{◌≡◌, ◌≢◌, refl, sym, ap, ◌∙◌, subst, ℕ, zero, suc, ◌+◌, ◌*◌, ◌<◌, ◌^◌, arith, Bool, true, false, ◌&&◌, List, [], ◌∷◌, ◌++◌, length, Option, Some, None, get_or, eqb-true, length-set}
+use Rattle.std.proofs.Common.{◌≡◌, ◌≢◌, refl, sym, ap, ◌∙◌, subst, ℕ, zero, suc, ◌+◌, ◌*◌, ◌<◌, ◌^◌, arith, Bool, true, false, ◌&&◌, List, [], ◌∷◌, ◌++◌, length, Option, Some, eqb-true, length-set}
 use Rattle.std.specs.Prelude.{◌==◌, ◌/◌, ◌%◌, slice_set, slice_index, replicate}
 use Rattle.std.proofs.lemmas.List.{get_or-set_same, get_or-set_other, length-map, length-replicate}
 use Rattle.hem_base.specs.declared.ids.Firing.{Firing}
@@ -12,8 +12,8 @@ use Rattle.hem_system.specs.Ended.{is_self, is_at, self_firings}
 use Rattle.hem_system.proofs.Own.{came}
 use Rattle.hem_rows.proofs.Choices.{both}
 use Rattle.hem_bound.specs.Starts as bound
-use Rattle.hem_walk.specs.Generator.{number_after}
-use Rattle.hem_walk.specs.Walk.{positions, position, IsThere, AreTurns}
+use Rattle.hem_work.specs.Generator.{number_after}
+use Rattle.hem_walk.specs.Walk.{position, IsThere, AreTurns}
 use Rattle.hem_walk.specs.Working.{Walking, IsCounted, IsSoFar}
 use Rattle.hem_walk.proofs.Positions.{below_all, same_place}
 use Rattle.hem_walk.proofs.Counting.{counted_here, counted_elsewhere, counted_other}
@@ -22,7 +22,6 @@ use Rattle.hem_walk.proofs.Counting.{counted_here, counted_elsewhere, counted_ot
 pub table_same : (p : Protocol) (tree : Tree) (h : List Firing) (s : State) (selfs : List ℕ) (f : Firing) → IsCounted p tree h s selfs → is_self p tree f ≡ false → IsCounted p tree (h ++ f ∷ []) s selfs
 table_same p tree h s selfs f it other =
     record {
-      some_line = it.some_line;
       few_lines = it.few_lines;
       size = it.size;
       each = λ l o there. it.each l o there ∙ sym (counted_other p tree h f l o other);
@@ -46,7 +45,6 @@ table_raised p tree h s selfs f it here self =
     let at = position tree f.line.0 f.object.0 in
     let n = slice_index selfs at in
     record {
-      some_line = it.some_line;
       few_lines = it.few_lines;
       size = length-set selfs at (n + 1) ∙ it.size;
       each = λ l o there. by_place l o there (is_at l o f) refl;
@@ -76,7 +74,6 @@ table_kept p tree h old new selfs f it fires =
     let step = came fires in
     let lines : length new ≡ length old = ap length step.after ∙ length-set old f.line.0 (line_after tree f step.effect step.line) in
     record {
-      some_line = (let some = it.some_line in omega arith);
       few_lines = (let few = it.few_lines in omega arith);
       size = it.size ∙ sym (ap (λ n. n * length tree) lines);
       each = λ l o there. it.each l o (record { line = (let inside = there.line in omega arith); object = there.object });
@@ -87,8 +84,8 @@ pub start_lines : (p : Protocol) (tree : Tree) (work : Work) → length (start p
 start_lines p tree work = length-map (below work.lines) (λ l. first_line p tree (requests_of work l)) ∙ length_below work.lines
 
 -- a walk with no firing so far
-pub so_far_none : (p : Protocol) (tree : Tree) (work : Work) (seed : ℕ) (w : Walking) → 0 < work.lines → work.lines < 2 ^ 32 → w.system ≡ start p tree work → w.journal ≡ [] → w.selfs ≡ replicate (work.lines * length tree) 0 → w.number ≡ number_after seed 0 → IsSoFar p tree work seed w
-so_far_none p tree work seed w some few system journal selfs number =
+pub so_far_none : (p : Protocol) (tree : Tree) (work : Work) (seed : ℕ) (w : Walking) → work.lines < 2 ^ 32 → w.system ≡ start p tree work → w.journal ≡ [] → w.selfs ≡ replicate (work.lines * length tree) 0 → w.number ≡ number_after seed 0 → IsSoFar p tree work seed w
+so_far_none p tree work seed w few system journal selfs number =
     let lines : length w.system ≡ work.lines = ap length system ∙ start_lines p tree work in
     record {
       runs = record { leads = ap (λ h. run_of h) journal ∙ ap Some (sym system) };
@@ -96,7 +93,6 @@ so_far_none p tree work seed w some few system journal selfs number =
       number = number ∙ sym (ap (λ (h : List Firing). number_after seed (length h)) journal);
       counted =
           record {
-            some_line = omega arith;
             few_lines = omega arith;
             size = ap length selfs ∙ length-replicate (work.lines * length tree) 0 ∙ sym (ap (λ n. n * length tree) lines);
             each = λ l o there. ap (λ xs. slice_index xs (position tree l o)) selfs ∙ zeros (work.lines * length tree) (position tree l o) ∙ sym (ap (λ h. self_firings p tree h l o) journal);

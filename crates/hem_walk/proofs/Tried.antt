@@ -1,5 +1,5 @@
 -- The first ready firing of a rule, of an object on a line, and of several positions.
-use Rattle.std.proofs.Common.{◌≡◌, refl, sym, ap, ◌∙◌, subst, ℕ, ◌+◌, ◌<◌, ◌≤◌, arith, Bool, true, false, cond, List, [], ◌∷◌, ◌++◌, length, map, Option, Some, None, ⊎_elim}
+use Rattle.std.proofs.Common.{◌≡◌, refl, sym, ap, ◌∙◌, subst, ℕ, ◌+◌, ◌<◌, ◌≤◌, arith, Bool, true, false, cond, List, [], ◌∷◌, length, map, Option, Some, None, ⊎_elim}
 use Rattle.std.specs.Prelude.{find, ◌/◌, ◌%◌}
 use Rattle.std.specs.List.{flat_map}
 use Rattle.std.specs.Option.{option_map_or, option_or}
@@ -26,12 +26,17 @@ pub alone_first : (test : Firing → Bool) (tree : Tree) (l o : ℕ) (rule : Rul
 alone_first test tree l o rule passes =
     ap (λ b. cond b (Some (firing_of l o rule None)) (find test (map (firing_of l o rule) (map named (children_of tree o))))) passes
 
--- or else the first with a child
-pub child_first : (test : Firing → Bool) (tree : Tree) (l o : ℕ) (rule : Rule) (kids : List ObjectId) (r : Option Firing) → test (firing_of l o rule None) ≡ false → map (λ id. id.0) kids ≡ children_of tree o → find test (map (λ id. firing_of l o rule (Some id)) kids) ≡ r → find test (firings_of_rule tree l o rule) ≡ r
-child_first test tree l o rule kids r fails are is =
-    ap (λ b. cond b (Some (firing_of l o rule None)) (find test (map (firing_of l o rule) (map named (children_of tree o))))) fails
-    ∙ ap (λ ks. find test (map (firing_of l o rule) (map named ks))) (sym are)
+-- the first with a child, by the children as they are kept
+pub child_among : (test : Firing → Bool) (tree : Tree) (l o : ℕ) (rule : Rule) (kids : List ObjectId) (r : Option Firing) → map (λ id. id.0) kids ≡ children_of tree o → find test (map (λ id. firing_of l o rule (Some id)) kids) ≡ r → find test (map (firing_of l o rule) (map named (children_of tree o))) ≡ r
+child_among test tree l o rule kids r are is =
+    ap (λ ks. find test (map (firing_of l o rule) (map named ks))) (sym are)
     ∙ ap (find test) (kids_named l o rule kids)
+    ∙ is
+
+-- or else the first with a child
+pub children_first : (test : Firing → Bool) (tree : Tree) (l o : ℕ) (rule : Rule) (r : Option Firing) → test (firing_of l o rule None) ≡ false → find test (map (firing_of l o rule) (map named (children_of tree o))) ≡ r → find test (firings_of_rule tree l o rule) ≡ r
+children_first test tree l o rule r fails is =
+    ap (λ b. cond b (Some (firing_of l o rule None)) (find test (map (firing_of l o rule) (map named (children_of tree o))))) fails
     ∙ is
 
 -- the first of an object on a line is that of its rules

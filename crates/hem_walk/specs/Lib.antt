@@ -1,3 +1,5 @@
-pub mod Generator
+pub mod Firsts
+pub mod Marks
+pub mod Near
 pub mod Walk
 pub mod Working

@@ -10,7 +10,7 @@ use Rattle.hem_tree.specs.Tree.{Tree, kind_of, children_of}
 use Rattle.hem_work.specs.Work.{Work}
 use Rattle.hem_system.specs.State.{State, Runs, start, fire}
 use Rattle.hem_system.specs.Ended.{is_self, self_firings}
-use Rattle.hem_walk.specs.Generator.{draw_after}
+use Rattle.hem_work.specs.Generator.{draw_after}
 
 -- the firing of a rule by an object on a line, with the child that it names
 abbrev pub firing_of : ℕ → ℕ → Rule → Option ObjectId → Firing

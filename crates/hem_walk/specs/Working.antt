@@ -1,5 +1,5 @@
 -- A walk on its way.
-use Rattle.std.specs.Prelude.{ℕ, ◌≡◌, ◌<◌, ◌≤◌, ◌%◌, ◌^◌, Bool, true, false, List, [], ◌∷◌, ◌++◌, length, Option, None, Some, slice_index}
+use Rattle.std.specs.Prelude.{ℕ, ◌≡◌, ◌<◌, ◌≤◌, ◌%◌, ◌^◌, Bool, true, false, List, [], ◌∷◌, ◌++◌, length, None, Some, slice_index}
 use Rattle.hem_base.specs.declared.ids.Firing.{Firing}
 use Rattle.hem_syntax.specs.Protocol.{Protocol}
 use Rattle.hem_tree.specs.Tree.{Tree}
@@ -7,7 +7,7 @@ use Rattle.hem_work.specs.Work.{Work}
 use Rattle.hem_system.specs.State.{State, Fires, Runs, start}
 use Rattle.hem_system.specs.Ended.{self_firings}
 use Rattle.hem_bound.specs.Starts.{IsWithin}
-use Rattle.hem_walk.specs.Generator.{next_number, number_after, draw_of}
+use Rattle.hem_work.specs.Generator.{next_number, number_after, draw_of}
 use Rattle.hem_walk.specs.Walk.{positions, position, ready_at, IsThere, IsTurn, IsOver, AreTurns}
 
 -- the firings so far, the state to which they lead, the self firings at each position, and the generator's number
@@ -19,7 +19,6 @@ pub record Walking : Type 0 where
 
 -- at each position the self firings are counted that its object made on its line
 pub record IsCounted (p : Protocol) (tree : Tree) (h : List Firing) (s : State) (selfs : List ℕ) : Type 0 where
-  pub some_line : 0 < length s
   pub few_lines : length s < 2 ^ 32
   pub size : length selfs ≡ positions tree s
   pub each : (l o : ℕ) → IsThere tree s l o → slice_index selfs (position tree l o) ≡ self_firings p tree h l o

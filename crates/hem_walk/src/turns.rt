@@ -2,16 +2,17 @@
 
 ghost use Rattle.std.specs.Prelude.{◌≡◌, ◌<◌, ◌+◌, ◌^◌, ◌++◌, ◌∷◌, [], true, IfOk, OnOk};
 ghost use Rattle.hem_system.specs.Ended.{is_self, self_firings};
+ghost use Rattle.hem_walk.specs.Near.{IsMarked};
 ghost use Rattle.hem_walk.specs.Walk.{IsThere};
 ghost use Rattle.hem_walk.specs.Working.{IsCounted, IsSoFar, IsMade, IsAfterTurn};
 
-use crate::generator::Generator;
+use crate::marks::Marks;
 use crate::working::{Walking, is_self, position};
 use hem_base::{Firing, List, OutOfMemory};
 use hem_syntax::Protocol;
 use hem_system::System;
 use hem_tree::Tree;
-use hem_work::Work;
+use hem_work::{Generator, Work};
 use std::alloc::Global;
 
 impl Walking {
@@ -23,7 +24,6 @@ impl Walking {
         work: &Work,
         seed: u64,
     ) -> Result<Walking, OutOfMemory>
-        requires { 0 < work.now.lines }
         ensures { IfOk result (IsSoFar p.now tree.now work.now seed) }
     {
         let system = System::start(alloc, p, tree, work)?;
@@ -73,18 +73,25 @@ impl Walking {
         p: &Protocol,
         tree: &Tree,
         work: &Work,
+        marks: &mut Marks,
     ) -> Result<bool, OutOfMemory>
-        requires { IsCounted p.now tree.now self.old.journal self.old.system self.old.selfs }
-        ensures { IfOk result (IsAfterTurn p.now tree.now work.now.self_count self.old self.new) }
+        requires counted { IsCounted p.now tree.now self.old.journal self.old.system self.old.selfs }
+        requires marked { IsMarked p.now tree.now work.now.self_count self.old.journal self.old.system marks.old }
+        ensures turn { IfOk result (IsAfterTurn p.now tree.now work.now.self_count self.old self.new) }
+        ensures marked { OnOk result (IsMarked p.now tree.now work.now.self_count self.new.journal self.new.system marks.new) }
     {
         // That a count of self firings is within its type.
         let _self_count = work.self_count();
         let positions = self.positions(tree);
+        if positions == 0 {
+            return Ok(false);
+        }
         let from = self.generator.draw() as usize % positions;
-        let Some(firing) = self.choose(p, tree, work, from) else {
+        let Some(firing) = self.choose(p, tree, work, marks, from) else {
             return Ok(false);
         };
         self.make(p, tree, firing)?;
+        self.mark_near(tree, marks, firing);
         Ok(true)
     }
 }

@@ -4,11 +4,11 @@ ghost use Rattle.std.specs.Prelude.{◌≡◌, ◌<◌, ◌^◌, length};
 ghost use Rattle.hem_system.specs.Ended.{takes_nothing, is_self};
 ghost use Rattle.hem_walk.specs.Walk.{positions, position};
 
-use crate::generator::Generator;
 use hem_base::{Firing, LineId, List, ObjectId};
 use hem_syntax::{Protocol, Take};
 use hem_system::System;
 use hem_tree::Tree;
+use hem_work::Generator;
 use std::marker::Model;
 
 /// A walk on its way: the firings so far, the state to which they lead, how many self firings were made at each position,
@@ -61,8 +61,7 @@ impl Walking {
     /// How many positions there are.
     pub(crate) fn positions(&self, tree: &Tree) -> usize
         requires { length self.now.system < 2 ^ 32 }
-        ensures count { result ≡ positions tree.now self.now.system }
-        ensures some { 0 < length self.now.system → 0 < result }
+        ensures { result ≡ positions tree.now self.now.system }
     {
         self.system.lines() * tree.objects() as usize
     }

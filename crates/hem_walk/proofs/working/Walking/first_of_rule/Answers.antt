@@ -1,30 +1,22 @@
-use Rattle.std.proofs.Common.{◌≡◌, refl, sym, ap, ◌∙◌, drop, map, Some, None, length, get_or}
-use Rattle.std.specs.Prelude.{find}
-use Rattle.hem_base.specs.declared.ids.ObjectId.{ObjectId}
-use Rattle.hem_walk.specs.Walk.{firing_of, is_ready}
-use Rattle.hem_walk.proofs.Finding.{mapped_next, mapped_here, mapped_end}
-use Rattle.hem_walk.proofs.Tried.{child_first}
+use Rattle.std.proofs.Common.{sym, ◌∙◌}
+use Rattle.hem_tree.specs.Tree.{children_of}
+use Rattle.hem_walk.specs.Walk.{is_ready}
+use Rattle.hem_walk.proofs.Begun.{none_with_child}
+use Rattle.hem_walk.proofs.Tried.{alone_first, children_first}
 use Rattle.hem_walk.proofs.working.Walking.first_of_rule.Goals as goal
 
-pub returns-then-is_ready-2 : goal.returns-then-is_ready-2
-returns-then-is_ready-2 c =
-    let d : ObjectId = record { 0 = 0 } in
+pub returns-then-is_ready_taking : goal.returns-then-is_ready_taking
+returns-then-is_ready_taking c =
     let test = is_ready c.args.p.now c.args.tree.now c.args.work.now.self_count c.args.self.now.journal c.args.self.now.system in
-    let with_child = λ (id : ObjectId). firing_of c.args.line.0 c.args.object.0 c.args.rule.now (Some id) in
-    let here = mapped_here test with_child c.children-children.result.now c.loop-child.child-index d c.loop-child-test.true (sym c.is_ready-in-loop-child.ensures ∙ c.if-is_ready-2.true) in
-    sym (child_first test c.args.tree.now c.args.line.0 c.args.object.0 c.args.rule.now c.children-children.result.now _ (sym c.is_ready.ensures ∙ c.if-is_ready.false) c.children-children.ensures (sym c.loop-child.invariant ∙ here))
+    sym (alone_first test c.args.tree.now c.args.line.0 c.args.object.0 c.args.rule.now (sym c.is_ready_taking.ensures ∙ c.if-is_ready_taking.true))
 
-pub loop-child-preserved : goal.loop-child-preserved
-loop-child-preserved c =
-    let d : ObjectId = record { 0 = 0 } in
+pub returns-then-names_child : goal.returns-then-names_child
+returns-then-names_child c =
     let test = is_ready c.args.p.now c.args.tree.now c.args.work.now.self_count c.args.self.now.journal c.args.self.now.system in
-    let with_child = λ (id : ObjectId). firing_of c.args.line.0 c.args.object.0 c.args.rule.now (Some id) in
-    mapped_next test with_child c.children-children.result.now c.loop-child.child-index d c.loop-child-test.true (sym c.is_ready-in-loop-child.ensures ∙ c.if-is_ready-2.false)
-    ∙ c.loop-child.invariant
+    sym (children_first test c.args.tree.now c.args.line.0 c.args.object.0 c.args.rule.now _ (sym c.is_ready_taking.ensures ∙ c.if-is_ready_taking.false) (sym c.first_of_child.ensures))
 
-pub returns : goal.returns
-returns c =
+pub returns-else-names_child : goal.returns-else-names_child
+returns-else-names_child c =
     let test = is_ready c.args.p.now c.args.tree.now c.args.work.now.self_count c.args.self.now.journal c.args.self.now.system in
-    let with_child = λ (id : ObjectId). firing_of c.args.line.0 c.args.object.0 c.args.rule.now (Some id) in
-    let end = mapped_end test with_child c.children-children.result.now c.loop-child.child-index c.loop-child-test.false in
-    sym (child_first test c.args.tree.now c.args.line.0 c.args.object.0 c.args.rule.now c.children-children.result.now _ (sym c.is_ready.ensures ∙ c.if-is_ready.false) c.children-children.ensures (sym c.loop-child.invariant ∙ end))
+    sym (children_first test c.args.tree.now c.args.line.0 c.args.object.0 c.args.rule.now _ (sym c.is_ready_taking.ensures ∙ c.if-is_ready_taking.false)
+    (none_with_child c.args.p.now c.args.tree.now c.args.work.now.self_count c.args.self.now.journal c.args.self.now.system c.args.line.0 c.args.object.0 c.args.rule.now (children_of c.args.tree.now c.args.object.0) c.requires.rule (sym c.names_child.ensures ∙ c.if-names_child.false)))

@@ -1,7 +1,7 @@
 use Rattle.std.proofs.Common.{◌≡◌, drop, map, Some}
 use Rattle.std.specs.Prelude.{find}
 use Rattle.hem_walk.specs.Walk.{firing_of, is_ready}
-use Rattle.hem_walk.proofs.working.Walking.first_of_rule.Given as goal
+use Rattle.hem_walk.proofs.working.Walking.first_of_child.Given as goal
 
 -- the first of the firings that are left is the first of all with a child
 abbrev pub invariant-loop-child : goal.invariant-loop-child
