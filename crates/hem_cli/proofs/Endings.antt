@@ -21,7 +21,7 @@ ending p tree s k (f ∷ h) =
       | Some next ↦ ending p tree next (k + 1) h
     ]
 
-if_some : {A B : Type 0} (f : A → Option B) (o : Option A) (y : B) → option_and_then f o ≡ Some y → (x : A) × (o ≡ Some x) × (f x ≡ Some y)
+pub if_some : {A B : Type 0} (f : A → Option B) (o : Option A) (y : B) → option_and_then f o ≡ Some y → (x : A) × (o ≡ Some x) × (f x ≡ Some y)
 if_some f None y is = cc
 if_some f (Some x) y is = (x, refl, is)
 

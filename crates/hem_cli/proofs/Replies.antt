@@ -1,22 +1,41 @@
 -- The replies of the jobs.
-use Rattle.std.proofs.Common.{◌≡◌, ◌∙◌, refl, sym, ap, subst, ℕ, ◌≤◌, List, length, Option, Some, None}
-use Rattle.std.specs.Prelude.{Result, Ok, Err, IfOk, option_map}
+use Rattle.std.proofs.Common.{◌≡◌, ◌∙◌, refl, sym, ap, subst, ℕ, ◌<◌, ◌≤◌, List, length, Option, Some, None, inl, inr}
+use Rattle.std.specs.Prelude.{◌⊎◌, Result, Ok, Err, IfOk, option_map}
 use Rattle.hem_base.specs.declared.outside.OutOfMemory.{OutOfMemory}
-use Rattle.hem_base.specs.declared.ids.Firing.{Firing}
+use Rattle.hem_text.specs.declared.reader.TextFault.{TextFault}
 use Rattle.hem_syntax.specs.Protocol.{Protocol}
+use Rattle.hem_tree.specs.Tree.{Tree}
+use Rattle.hem_work.specs.Work.{Work}
 use Rattle.hem_check.specs.Discipline.{first_broken}
 use Rattle.hem_check.specs.Refused.{refusal_of}
 use Rattle.hem_check.specs.declared.refusal.Refusal.{Refusal}
 use Rattle.hem_report.specs.RefusalText.{refusal_text}
+use Rattle.hem_document.specs.declared.documents.WorkDocument.{WorkDocument}
 use Rattle.hem_document.specs.declared.documents.Document.{Document}
-use Rattle.hem_document.specs.SetUp.{document_of}
-use Rattle.hem_document.specs.Documents.{IsProtocolDocument, IsDocument}
-use Rattle.hem_cli.specs.Job.{AsksFor}
-use Rattle.hem_cli.specs.Answer.{Answer, IsRefused, IsVerdict, IsRepliedTo, IsCheckAnswer, IsGroupAnswer, IsJobAnswer, most_bytes}
+use Rattle.hem_document.specs.SetUp.{document_of, tree_in, work_in}
+use Rattle.hem_words.specs.Job.{AsksFor}
+use Rattle.hem_words.specs.declared.job.Job.{Job}
+use Rattle.hem_words.specs.declared.job.Job.TheVariants.{Check, Group, Walk, Make}
+use Rattle.hem_cli.specs.Texts.{fault_text, walked_text}
+use Rattle.hem_system.specs.State.{State, Runs, start}
+use Rattle.hem_trace.specs.Blocks.{Block, IsSerial, SameFirings, firings_of}
+use Rattle.hem_trace.specs.Order.{entries_of, printed}
+use Rattle.hem_walk.specs.Walk.{IsWalk}
+use Rattle.hem_cli.specs.Refusals.{IsUnread, IsRefused, IsUnready, IsReplyTo, IsAnswerTo}
+use Rattle.hem_cli.specs.Preparing.{IsOf, IsPrepared}
+use Rattle.hem_cli.specs.declared.preparing.Prepared.{Prepared}
+use Rattle.hem_cli.specs.declared.preparing.Prepared.TheVariants.{ForJob}
+use Rattle.hem_base.specs.declared.ids.Firing.{Firing}
+use Rattle.hem_work.proofs.Fits.{lawful_work}
+use Rattle.hem_cli.specs.Grouping.{IsReplayed}
+use Rattle.hem_work.specs.Lawful.{IsLawfulWork}
+use Rattle.hem_work.specs.Made.{made, made_fault}
+use Rattle.hem_cli.specs.Making.{made_text}
+use Rattle.hem_cli.specs.Walking.{IsWalked, IsSummed, IsGenerated, IsWalkOf}
+use Rattle.hem_cli.specs.Answer.{Answer, IsVerdict, IsGroupReply, IsWalkReply, IsMakeReply, IsJobAnswer, most_bytes}
 use Rattle.hem_cli.specs.Outcome.{IsAfterReading}
+use Rattle.hem_cli.specs.declared.preparing.Ready.{Ready}
 use Rattle.hem_cli.specs.declared.reply.Reply.{Reply}
-use Rattle.hem_cli.specs.declared.job.Job.{Job}
-use Rattle.hem_cli.specs.declared.job.Job.TheVariants.{Check, Group}
 use Rattle.hem_cli.specs.declared.status.Status.{Status}
 use Rattle.hem_cli.specs.declared.status.Status.TheVariants.{Done, Usage, WriteFault, TooLong, Text, Refused, Setup, Illegal, Memory}
 
@@ -30,62 +49,69 @@ refused_is p refusal text is says =
     let found = if_mapped (refusal_of p) (first_broken p) refusal is in
     record { broken = found.0; first = found.1; says = says ∙ ap refusal_text (sym found.2) }
 
--- a refusal is the answer to the protocol and to each document of it
-pub verdict_refused : (p : Protocol) (refusal : Refusal) (r : Result Reply OutOfMemory) → option_map (refusal_of p) (first_broken p) ≡ Some refusal → IfOk r (λ x. x.status ≡ Refused)
-    → IfOk r (λ x. (q : Protocol) → option_map (refusal_of q) (first_broken q) ≡ Some refusal → IsRefused q x.text.items) → IfOk r (λ x. IsVerdict p x.status x.text.items)
-verdict_refused p refusal (Ok x) is status text = subst (λ s. IsVerdict p s x.text.items) (sym status) (text p is)
-verdict_refused p refusal (Err e) is status text = tt
+-- the reply to what the bytes are is the answer to them, and so is their first fault
+pub read_answered : {D : Type 0} (F : TextFault → Type 0) (R : D → Type 0) (reply : D → Status → List ℕ → Type 0) (d : D) (r : Result Reply OutOfMemory) → R d
+    → IfOk r (λ x. reply d x.status x.text.items) → IfOk r (λ x. IsAnswerTo F R reply x.status x.text.items)
+read_answered F R reply d (Ok x) reads replied = inr (d, reads, replied)
+read_answered F R reply d (Err e) reads replied = tt
 
-pub document_refused : (d : Document) (refusal : Refusal) (r : Result Reply OutOfMemory) → option_map (refusal_of d.setup.protocol) (first_broken d.setup.protocol) ≡ Some refusal → IfOk r (λ x. x.status ≡ Refused)
-    → IfOk r (λ x. (q : Protocol) → option_map (refusal_of q) (first_broken q) ≡ Some refusal → IsRefused q x.text.items) → IfOk r (λ x. IsRepliedTo d x.status x.text.items)
-document_refused d refusal (Ok x) is status text = subst (λ s. IsRepliedTo d s x.text.items) (sym status) (text d.setup.protocol is)
-document_refused d refusal (Err e) is status text = tt
+pub fault_answered : {D : Type 0} (F : TextFault → Type 0) (R : D → Type 0) (reply : D → Status → List ℕ → Type 0) (fault : TextFault) (r : Result Reply OutOfMemory) → F fault
+    → IfOk r (λ x. x.status ≡ Text) → IfOk r (λ x. x.text.items ≡ fault_text fault) → IfOk r (λ x. IsAnswerTo F R reply x.status x.text.items)
+fault_answered F R reply fault (Ok x) is status text = inl (status, record { fault = fault; first = is; says = text })
+fault_answered F R reply fault (Err e) is status text = tt
 
--- the reply to a document's parts is that to the document
-pub document_accepted : (d : Document) (accepted : Protocol) (h : List Firing) (r : Result Reply OutOfMemory) → accepted ≡ d.setup.protocol → h ≡ d.history
-    → IfOk r (λ x. IsRepliedTo (record { setup = document_of accepted d.setup.tree d.setup.work; history = h }) x.status x.text.items) → IfOk r (λ x. IsRepliedTo d x.status x.text.items)
-document_accepted d accepted h r protocols histories replied =
-    let P : Protocol → List Firing → Type 0 = λ p f. IfOk r (λ x. IsRepliedTo (record { setup = document_of p d.setup.tree d.setup.work; history = f }) x.status x.text.items) in
-    subst (λ f. P d.setup.protocol f) histories (subst (λ p. P p h) protocols replied)
+-- what is said of what is ready is said of its document
+pub of_document : (d : WorkDocument) (ready : Ready) (P : Protocol → Tree → Work → Type 0) → IsOf d ready → P ready.accepted ready.tree ready.work → P d.protocol (tree_in d) (work_in d)
+of_document d ready P of said =
+    subst (λ p. P p (tree_in d) (work_in d)) of.protocol
+    (subst (λ tree. P ready.accepted tree (work_in d)) of.tree (subst (λ work. P ready.accepted ready.tree work) of.work said))
 
--- the verdict on what the bytes are is the answer to them
-check_answered : (bytes : List ℕ) (p : Protocol) (status : Status) (text : List ℕ) → IsProtocolDocument bytes p → IsVerdict p status text → IsCheckAnswer bytes status text
-check_answered bytes p Text text reads verdict = absurd verdict
-check_answered bytes p status text reads verdict = (p, reads, verdict)
+-- the reply to a history comes after all is read, and so does each other
+replayed_after : (p : Protocol) (tree : Tree) (work : Work) (h : List Firing) (a : Status) (x : List ℕ) → IsReplayed p tree work h a x → IsAfterReading a
+replayed_after p tree work h a x (inl it) = subst IsAfterReading (sym it.0) tt
+replayed_after p tree work h a x (inr it) = subst IsAfterReading (sym it.0) tt
 
-pub checks : (bytes : List ℕ) (p : Protocol) (r : Result Reply OutOfMemory) → IsProtocolDocument bytes p → IfOk r (λ x. IsVerdict p x.status x.text.items) → IfOk r (λ x. IsCheckAnswer bytes x.status x.text.items)
-checks bytes p (Ok x) reads verdict = check_answered bytes p x.status x.text.items reads verdict
-checks bytes p (Err e) reads verdict = tt
+unready_after : (d : WorkDocument) (a : Status) (x : List ℕ) → IsUnready d a x → IsAfterReading a
+unready_after d a x (inl it) = subst IsAfterReading (sym it.0) tt
+unready_after d a x (inr it) = subst IsAfterReading (sym it.0) tt
 
--- the reply to what the bytes are is the answer to them
-group_answered : (bytes : List ℕ) (d : Document) (status : Status) (text : List ℕ) → IsDocument bytes d → IsRepliedTo d status text → IsGroupAnswer bytes status text
-group_answered bytes d Text text reads replied = absurd replied
-group_answered bytes d status text reads replied = (d, reads, replied)
+reply_to_after : (d : WorkDocument) (M : Status → List ℕ → Type 0) (a : Status) (x : List ℕ) → (M a x → IsAfterReading a) → IsReplyTo d M a x → IsAfterReading a
+reply_to_after d M a x made (inl it) = unready_after d a x it
+reply_to_after d M a x made (inr it) = made it.1
 
-pub groups : (bytes : List ℕ) (d : Document) (r : Result Reply OutOfMemory) → IsDocument bytes d → IfOk r (λ x. IsRepliedTo d x.status x.text.items) → IfOk r (λ x. IsGroupAnswer bytes x.status x.text.items)
-groups bytes d (Ok x) reads replied = group_answered bytes d x.status x.text.items reads replied
-groups bytes d (Err e) reads replied = tt
+verdict_after : (p : Protocol) (a : Status) (x : List ℕ) → IsVerdict p a x → IsAfterReading a
+verdict_after p a x (inl it) = subst IsAfterReading (sym it.0) tt
+verdict_after p a x (inr it) = subst IsAfterReading (sym it.0) tt
 
--- a job answers once all is read
-check_after : (bytes : List ℕ) (status : Status) (text : List ℕ) → IsCheckAnswer bytes status text → IsAfterReading status
-check_after bytes Done text told = tt
-check_after bytes Text text told = tt
-check_after bytes Refused text told = tt
-check_after bytes Setup text told = tt
-check_after bytes Illegal text told = tt
-check_after bytes status text told = absurd told.2
+group_after : (d : Document) (a : Status) (x : List ℕ) → IsGroupReply d a x → IsAfterReading a
+group_after d a x = reply_to_after d.setup (IsReplayed d.setup.protocol (tree_in d.setup) (work_in d.setup) d.history) a x (replayed_after d.setup.protocol (tree_in d.setup) (work_in d.setup) d.history a x)
 
-group_after : (bytes : List ℕ) (status : Status) (text : List ℕ) → IsGroupAnswer bytes status text → IsAfterReading status
-group_after bytes Done text told = tt
-group_after bytes Text text told = tt
-group_after bytes Refused text told = tt
-group_after bytes Setup text told = tt
-group_after bytes Illegal text told = tt
-group_after bytes status text told = absurd told.2
+generated_after : (p : Protocol) (tree : Tree) (work : Work) (count seed : ℕ) (M : Work → List ℕ → Type 0) (a : Status) (x : List ℕ) → IsGenerated p tree work count seed M a x → IsAfterReading a
+generated_after p tree work count seed M a x (inl it) = subst IsAfterReading (sym it.0) tt
+generated_after p tree work count seed M a x (inr it) = subst IsAfterReading (sym it.0) tt
+
+walk_of_after : (count : Option ℕ) (seed : ℕ) (p : Protocol) (tree : Tree) (work : Work) (a : Status) (x : List ℕ) → IsWalkOf count seed p tree work a x → IsAfterReading a
+walk_of_after None seed p tree work a x it = subst IsAfterReading (sym it.0) tt
+walk_of_after (Some count) seed p tree work a x it = generated_after p tree work count seed (λ w y. IsSummed p tree w seed y) a x it
+
+walk_after : (count : Option ℕ) (seed : ℕ) (d : WorkDocument) (a : Status) (x : List ℕ) → IsWalkReply count seed d a x → IsAfterReading a
+walk_after count seed d a x = reply_to_after d (IsWalkOf count seed d.protocol (tree_in d) (work_in d)) a x (walk_of_after count seed d.protocol (tree_in d) (work_in d) a x)
+
+make_after : (bytes : List ℕ) (count seed : ℕ) (d : WorkDocument) (a : Status) (x : List ℕ) → IsMakeReply bytes count seed d a x → IsAfterReading a
+make_after bytes count seed d a x =
+    let M : Work → List ℕ → Type 0 = λ w y. y ≡ made_text bytes d.protocol (tree_in d) w in
+    reply_to_after d (IsGenerated d.protocol (tree_in d) (work_in d) count seed M) a x (generated_after d.protocol (tree_in d) (work_in d) count seed M a x)
+
+answer_after : {D : Type 0} (F : TextFault → Type 0) (R : D → Type 0) (reply : D → Status → List ℕ → Type 0) → ((d : D) (a : Status) (x : List ℕ) → reply d a x → IsAfterReading a)
+    → (a : Status) (x : List ℕ) → IsAnswerTo F R reply a x → IsAfterReading a
+answer_after F R reply after a x (inl it) = subst IsAfterReading (sym it.0) tt
+answer_after F R reply after a x (inr it) = after it.0 a x it.2
 
 pub job_after : (job : Job) (bytes : List ℕ) (status : Status) (text : List ℕ) → IsJobAnswer job bytes status text → IsAfterReading status
-job_after Check bytes status text told = check_after bytes status text told
-job_after Group bytes status text told = group_after bytes status text told
+job_after Check bytes = answer_after _ _ IsVerdict verdict_after
+job_after Group bytes = answer_after _ _ IsGroupReply group_after
+job_after (Walk count seed) bytes = answer_after _ _ (IsWalkReply count seed) (walk_after count seed)
+job_after (Make count seed) bytes = answer_after _ _ (IsMakeReply bytes count seed) (make_after bytes count seed)
 
 -- a job's reply comes once all is read
 pub reply_after : (job : Job) (bytes : List ℕ) (r : Result Reply OutOfMemory) → IfOk r (λ x. IsJobAnswer job bytes x.status x.text.items) → IfOk r (λ x. IsAfterReading x.status)
@@ -102,16 +128,66 @@ pub answered : (words : List (List ℕ)) (job : Job) (bytes : List ℕ) (status 
 answered words job bytes status text asks few told = job_answered words job bytes status text asks few told (job_after job bytes status text told)
 
 -- no job answers that memory ran out, or that the sink failed
-no_job_memory : (job : Job) (bytes text : List ℕ) → IsJobAnswer job bytes Memory text → ⊥
-no_job_memory Check bytes text told = told.2
-no_job_memory Group bytes text told = told.2
-
 pub no_memory : (words : List (List ℕ)) (bytes text : List ℕ) → Answer words bytes Memory text → ⊥
-no_memory words bytes text answer = no_job_memory answer.0 bytes text answer.3
-
-no_job_write_fault : (job : Job) (bytes text : List ℕ) → IsJobAnswer job bytes WriteFault text → ⊥
-no_job_write_fault Check bytes text told = told.2
-no_job_write_fault Group bytes text told = told.2
+no_memory words bytes text answer = job_after answer.0 bytes Memory text answer.3
 
 pub no_write_fault : (words : List (List ℕ)) (bytes text : List ℕ) → Answer words bytes WriteFault text → ⊥
-no_write_fault words bytes text answer = no_job_write_fault answer.0 bytes text answer.3
+no_write_fault words bytes text answer = job_after answer.0 bytes WriteFault text answer.3
+
+-- a refusal is the reply to the protocol, and to each document of it
+pub verdict_refused : (p : Protocol) (refusal : Refusal) (r : Result Reply OutOfMemory) → option_map (refusal_of p) (first_broken p) ≡ Some refusal → IfOk r (λ x. x.status ≡ Refused)
+    → IfOk r (λ x. (q : Protocol) → option_map (refusal_of q) (first_broken q) ≡ Some refusal → IsRefused q x.text.items) → IfOk r (λ x. IsVerdict p x.status x.text.items)
+verdict_refused p refusal (Ok x) is status text = inl (status, text p is)
+verdict_refused p refusal (Err e) is status text = tt
+
+pub refused_before : (d : WorkDocument) (refusal : Refusal) (r : Result Reply OutOfMemory) (x : Reply) → r ≡ Ok x → option_map (refusal_of d.protocol) (first_broken d.protocol) ≡ Some refusal → IfOk r (λ y. y.status ≡ Refused)
+    → IfOk r (λ y. (q : Protocol) → option_map (refusal_of q) (first_broken q) ≡ Some refusal → IsRefused q y.text.items) → IsUnready d x.status x.text.items
+refused_before d refusal r x is refuses status text =
+    inl (
+      subst (λ s. IfOk s (λ y. y.status ≡ Refused)) is status,
+      subst (λ s. IfOk s (λ y. (q : Protocol) → option_map (refusal_of q) (first_broken q) ≡ Some refusal → IsRefused q y.text.items)) is text d.protocol refuses,
+    )
+
+-- what is prepared of a document's parts is prepared of the document
+pub prepared_of : (d : WorkDocument) (accepted : Protocol) (r : Result Prepared OutOfMemory) → accepted ≡ d.protocol → IfOk r (IsPrepared (document_of accepted d.tree d.work)) → IfOk r (IsPrepared d)
+prepared_of d accepted r same prepared = subst (λ p. IfOk r (IsPrepared (document_of p d.tree d.work))) same prepared
+
+-- the reply to what is ready is that to its document
+pub ready_replied : (d : WorkDocument) (prepared : Prepared) (ready : Ready) (M : Protocol → Tree → Work → Status → List ℕ → Type 0) (r : Result Reply OutOfMemory) → IsPrepared d prepared → prepared ≡ ForJob ready
+    → IfOk r (λ x. M ready.accepted ready.tree ready.work x.status x.text.items) → IfOk r (λ x. IsReplyTo d (M d.protocol (tree_in d) (work_in d)) x.status x.text.items)
+ready_replied d prepared ready M (Ok x) before is replied =
+    let it = subst (IsPrepared d) is before in
+    inr (it.0, of_document d ready (λ p tree work. M p tree work x.status x.text.items) it.1 replied)
+ready_replied d prepared ready M (Err e) before is replied = tt
+
+-- the work that is ready is lawful
+pub ready_work : (d : WorkDocument) (prepared : Prepared) (ready : Ready) → IsPrepared d prepared → prepared ≡ ForJob ready → IsLawfulWork ready.accepted ready.tree ready.work
+ready_work d prepared ready before is =
+    let it = subst (IsPrepared d) is before in
+    let lawful : IsLawfulWork d.protocol (tree_in d) (work_in d) = lawful_work d.work d.protocol (tree_in d) it.0.lawful.work in
+    subst (λ p. IsLawfulWork p ready.tree ready.work) (sym it.1.protocol)
+    (subst (λ tree. IsLawfulWork d.protocol tree ready.work) (sym it.1.tree) (subst (λ work. IsLawfulWork d.protocol (tree_in d) work) (sym it.1.work) lawful))
+
+-- the text of a walk and of its blocks
+pub walk_told : {S : Type 0} (bytes : S → List ℕ) (p q : Protocol) (tree : Tree) (work : Work) (seed : ℕ) (journal handed told : List Firing) (end : State) (blocks given : List Block) (r : Result S OutOfMemory) → q ≡ p → IsWalk p tree work seed journal end → handed ≡ journal → told ≡ journal
+    → blocks ≡ printed (entries_of p tree (start p tree work) handed) → ((s : State) → Runs p tree (start p tree work) handed s → IsSerial p tree (start p tree work) blocks s) → SameFirings handed (firings_of blocks) → given ≡ blocks
+    → IfOk r (λ s. bytes s ≡ walked_text q tree told given end) → IfOk r (λ s. IsWalked p tree work seed (bytes s))
+walk_told bytes p q tree work seed journal handed told end blocks given (Ok s) same walk first second order serial firings blocks_are says =
+    record {
+      journal = journal;
+      end = end;
+      walk = walk;
+      blocks = blocks;
+      of = record {
+        order = order ∙ ap (λ h. printed (entries_of p tree (start p tree work) h)) first;
+        serial = serial end (subst (λ h. Runs p tree (start p tree work) h end) (sym first) walk.runs);
+        same = subst (λ h. SameFirings h (firings_of blocks)) first firings;
+      };
+      says = says ∙ (λ i. walked_text (same i) tree (second i) (blocks_are i) end);
+    }
+walk_told bytes p q tree work seed journal handed told end blocks given (Err e) same walk first second order serial firings blocks_are says = tt
+
+-- what a made work comes to
+pub generated_done : (p q : Protocol) (tree : Tree) (work with_more : Work) (count seed : ℕ) (M : Work → List ℕ → Type 0) (a : Status) (x : List ℕ) → q ≡ p → with_more ≡ made q tree work count seed → made_fault q tree work count ≡ None → a ≡ Done → M with_more x → IsGenerated p tree work count seed M a x
+generated_done p q tree work with_more count seed M a x same is faultless done it =
+    inr (done, subst (λ y. made_fault y tree work count ≡ None) same faultless, subst (λ w. M w x) (is ∙ ap (λ y. made y tree work count seed) same) it)

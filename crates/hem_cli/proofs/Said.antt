@@ -1,15 +1,15 @@
 -- What a reply says, with sources that may not tell their bytes.
 use Rattle.std.proofs.Common.{◌≡◌, ℕ, ◌+◌, ◌<◌, ◌≤◌, ◌↔◌, List, length, Option, Some, None, ap, subst, arith, length-append}
 use Rattle.std.proofs.lemmas.List.{length-replicate}
-use Rattle.std.specs.Prelude.{Result, Ok, Err, IfOk, replicate}
+use Rattle.std.specs.Prelude.{Result, Ok, Err, IfOk, MatchOption, replicate}
 use Rattle.hem_base.specs.declared.outside.OutOfMemory.{OutOfMemory}
 use Rattle.hem_io.specs.Reading.{ReadsAll, TakesFront}
 use Rattle.hem_cli.specs.declared.reply.Reply.{Reply}
 use Rattle.hem_cli.specs.declared.status.Status.{Status}
 use Rattle.hem_cli.specs.declared.status.Status.TheVariants.{ReadFault}
 use Rattle.hem_cli.specs.Answer.{Answer, IsJobAnswer, most_bytes}
-use Rattle.hem_cli.specs.Job.{AsksFor}
-use Rattle.hem_cli.specs.declared.job.Job.{Job}
+use Rattle.hem_words.specs.Job.{AsksFor}
+use Rattle.hem_words.specs.declared.job.Job.{Job}
 use Rattle.hem_cli.specs.Outcome.{Says, OfBytes, IsAfterReading}
 use Rattle.hem_cli.proofs.Replies.{answered, job_after}
 
@@ -45,3 +45,7 @@ read_says words job left new before now bytes (Ok x) asks few read told =
     (job_after job bytes x.status x.text.items told)
     (of_read left new bytes (λ bs. Answer words bs x.status x.text.items) read (answered words job bytes x.status x.text.items asks few told))
 read_says words job left new before now bytes (Err e) asks few read told = tt
+
+-- the job that the words ask for
+pub asked : (A : Type 0) (P : Job → Type 0) (o : Option Job) (job : Job) → o ≡ Some job → MatchOption o A P → P job
+asked A P o job is told = subst (λ x. MatchOption x A P) is told

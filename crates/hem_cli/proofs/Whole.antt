@@ -4,7 +4,7 @@ use Rattle.std.specs.Prelude.{IfSome, ◌⊎◌}
 use Rattle.std.specs.Io.KnownBytes.{Appends}
 use Rattle.hem_cli.specs.Answer.{Answer}
 use Rattle.hem_cli.specs.Outcome.{Says, OfBytes, IsUnlessFault, IsWhole}
-use Rattle.hem_cli.specs.Job.{IsGood}
+use Rattle.hem_words.specs.Job.{IsGood}
 use Rattle.hem_cli.specs.declared.status.Status.{Status}
 use Rattle.hem_cli.specs.declared.status.Status.TheVariants.{Usage, ReadFault, WriteFault, TooLong, Memory}
 use Rattle.hem_cli.proofs.Once.{answer_once}

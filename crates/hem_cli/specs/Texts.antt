@@ -1,4 +1,4 @@
--- The texts of faults, as bytes, and the text of a history that runs.
+-- The texts of faults, as bytes, and the texts of histories.
 use Rattle.std.specs.Prelude.{List, ◌++◌, codes, decimal}
 use Rattle.hem_text.specs.declared.text.Place.{Place}
 use Rattle.hem_text.specs.declared.text.Cause.{Cause}
@@ -9,10 +9,12 @@ use Rattle.hem_tree.specs.declared.setup.SetupCause.TheVariants as rule
 use Rattle.hem_text.specs.declared.reader.TextFault.{TextFault}
 use Rattle.hem_syntax.specs.Protocol.{Protocol, Text}
 use Rattle.hem_tree.specs.Tree.{Tree}
+use Rattle.hem_base.specs.declared.ids.Firing.{Firing}
 use Rattle.hem_system.specs.State.{State}
 use Rattle.hem_trace.specs.Blocks.{Block}
 use Rattle.hem_report.specs.BlocksText.{blocks_text}
 use Rattle.hem_report.specs.StateText.{word_of, state_text}
+use Rattle.hem_report.specs.JournalText.{journal_text, end_word_of}
 
 -- a place: line and column
 abbrev pub place_text : Place → Text
@@ -49,3 +51,7 @@ setup_text f = codes "setup " ++ place_text f.place ++ codes " " ++ rule_text f.
 -- a history that runs to the end: the word, the blocks, and the end
 abbrev pub grouped_text : Protocol → Tree → List Block → State → Text
 grouped_text p tree blocks end = word_of end ++ blocks_text p blocks ++ state_text p tree end
+
+-- a walk: the word, its firings, the blocks, and the end
+abbrev pub walked_text : Protocol → Tree → List Firing → List Block → State → Text
+walked_text p tree journal blocks end = end_word_of end ++ journal_text p journal ++ blocks_text p blocks ++ state_text p tree end

@@ -4,24 +4,26 @@ ghost use Rattle.std.specs.Prelude.{◌≡◌, ◌+◌, ◌≤◌, ℕ, map, len
 ghost use Rattle.std.specs.Io.KnownBytes.{IsAtEnd};
 ghost use Rattle.hem_base.specs.Streams.{Rose, grown};
 ghost use Rattle.hem_cli.specs.Answer.{most_bytes, IsJobAnswer};
-ghost use Rattle.hem_cli.specs.Job.{IsGood};
+ghost use Rattle.hem_words.specs.Job.{IsGood};
 ghost use Rattle.hem_cli.specs.Outcome.{Says, IsAfterReading};
 ghost use Rattle.hem_cli.specs.declared.status.Status.{Status};
 
 use crate::Status;
 use crate::checking::checked;
 use crate::grouping::grouped;
-use crate::job::{Job, job_of};
+use crate::making::make;
 use crate::reply::{Reply, reply_of};
+use crate::walking::walk_from;
 use hem_base::{OutOfMemory, Source};
 use hem_io::{ReadEnd, read_all};
+use hem_words::{Job, job_of};
 use std::alloc::Global;
 use std::thread::Threads;
 
 /// The most bytes of input.
 pub(crate) const MOST_BYTES: usize = 33_554_432;
 
-const USAGE: &str = "usage: hem check|group\n";
+const USAGE: &str = "usage: hem check|group|walk|make [--count N] [--seed N]\n";
 
 /// The answer of a job to a whole input.
 fn job_reply<R: Threads + Sync>(
@@ -37,6 +39,8 @@ fn job_reply<R: Threads + Sync>(
     match job {
         Job::Check => checked(alloc, bytes),
         Job::Group => grouped(rt, alloc, bytes),
+        Job::Walk { count, seed } => walk_from(rt, alloc, count, seed, bytes),
+        Job::Make { count, seed } => make(alloc, count, seed, bytes),
     }
 }
 
@@ -56,7 +60,7 @@ pub(crate) fn answer<R: Threads + Sync, S: Source>(
     ensures later { S.faults source.old ≤ S.faults source.new }
     ensures same { S.setup source.new ≡ S.setup source.old }
 {
-    let job = match job_of(words) {
+    let job = match job_of(alloc, words)? {
         Some(job) => job,
         None => return reply_of(alloc, Status::Usage, USAGE),
     };

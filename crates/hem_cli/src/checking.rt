@@ -1,10 +1,11 @@
 //! The job `check`: whether a protocol is disciplined.
 
 ghost use Rattle.std.specs.Prelude.{◌≡◌, ◌≤◌, length, IfOk};
-ghost use Rattle.hem_cli.specs.Answer.{most_bytes, IsVerdict, IsCheckAnswer};
+ghost use Rattle.hem_cli.specs.Answer.{most_bytes, IsVerdict, IsJobAnswer};
+ghost use Rattle.hem_words.specs.declared.job.Job.{Job};
 
 use crate::Status;
-use crate::reply::{Reply, refused, reply_with, unread};
+use crate::reply::{Reply, letting_go, refused, reply_with, unread};
 use hem_base::OutOfMemory;
 use hem_check::check;
 use hem_document::read_protocol_document;
@@ -19,17 +20,20 @@ fn verdict(alloc: Global, protocol: Protocol) -> Result<Reply, OutOfMemory>
 {
     match check(protocol) {
         Ok(accepted) => {
-            let text = accepted_text(alloc, &accepted)?;
-            Ok(reply_with(Status::Done, text))
+            let text = accepted_text(alloc, &accepted);
+            Ok(reply_with(Status::Done, letting_go(accepted, text)?))
         }
-        Err(refusal) => refused(alloc, &refusal),
+        Err(refusal) => {
+            let reply = refused(alloc, &refusal);
+            letting_go(refusal, reply)
+        }
     }
 }
 
 /// The answer of `check` to a whole input.
 pub(crate) fn checked(alloc: Global, bytes: &[u8]) -> Result<Reply, OutOfMemory>
     requires { length bytes.now ≤ most_bytes }
-    ensures { IfOk result (λ r. IsCheckAnswer bytes.now r.status r.text.items) }
+    ensures { IfOk result (λ r. IsJobAnswer Job.Check bytes.now r.status r.text.items) }
 {
     match read_protocol_document(alloc, bytes) {
         Ok(protocol) => verdict(alloc, protocol),

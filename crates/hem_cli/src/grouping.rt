@@ -1,41 +1,34 @@
 //! The job `group`: a history by transactions.
 
-ghost use Rattle.std.specs.Prelude.{◌≡◌, ◌≤◌, List, length, IfOk};
-ghost use Rattle.hem_base.specs.declared.ids.Firing.{Firing};
-ghost use Rattle.hem_check.specs.Discipline.{IsDisciplined};
-ghost use Rattle.hem_document.specs.declared.documents.WorkDocument.{WorkDocument};
-ghost use Rattle.hem_document.specs.SetUp.{document_of, tree_in, work_in, IsSetUp};
-ghost use Rattle.hem_cli.specs.Answer.{most_bytes, IsRepliedTo, IsGroupAnswer};
+ghost use Rattle.std.specs.Prelude.{◌≡◌, ◌≤◌, length, IfOk};
+ghost use Rattle.hem_words.specs.declared.job.Job.{Job};
+ghost use Rattle.hem_cli.specs.Answer.{most_bytes, IsGroupReply, IsJobAnswer};
+ghost use Rattle.hem_cli.specs.Grouping.{IsReplayed};
 
 use crate::Status;
-use crate::fault_texts::setup_text;
-use crate::grouped_texts::{grouped_text, stopped_text};
-use crate::reply::{Reply, refused, reply_with, unread};
+use crate::history_texts::{grouped_text, stopped_text};
+use crate::preparing::{Prepared, Ready, prepare};
+use crate::reply::{Reply, letting_go, reply_with, unread};
 use hem_base::{Firing, OutOfMemory};
-use hem_check::{Accepted, check};
-use hem_document::{Document, Lawful, WorkDocument, read_document, set_up};
+use hem_document::{Document, read_document};
 use hem_regroup::{Regrouped, replay_and_regroup};
 use hem_system::ReplayFault;
 use hem_text::TextError;
-use hem_tree::{RawTree, SetupError};
-use hem_work::RawWork;
 use std::alloc::Global;
 use std::thread::Threads;
 
-/// The answer to a history over a disciplined protocol, a lawful tree and a lawful work.
+/// The reply to a history over what is ready.
 fn replayed<R: Threads + Sync>(
     rt: &R,
     alloc: Global,
-    accepted: &Accepted,
-    lawful: &Lawful,
+    ready: &Ready,
     history: &[Firing],
 ) -> Result<Reply, OutOfMemory>
-    ensures { IfOk result (λ r. (setup : WorkDocument) → setup.protocol ≡ accepted.now → lawful.now.tree ≡ tree_in setup → lawful.now.work ≡ work_in setup → IsSetUp setup
-        → IsRepliedTo (record { setup = setup; history = history.now }) r.status r.text.items) }
+    ensures { IfOk result (λ r. IsReplayed ready.now.accepted ready.now.tree ready.now.work history.now r.status r.text.items) }
 {
-    let p = accepted.protocol();
-    let tree = &lawful.tree;
-    match replay_and_regroup(rt, alloc, accepted, tree, &lawful.work, history) {
+    let p = ready.accepted.protocol();
+    let tree = &ready.tree;
+    match replay_and_regroup(rt, alloc, &ready.accepted, tree, &ready.work, history) {
         Ok(Regrouped { end, blocks }) => {
             let text = grouped_text(alloc, p, tree, &blocks, &end)?;
             Ok(reply_with(Status::Done, text))
@@ -48,44 +41,21 @@ fn replayed<R: Threads + Sync>(
     }
 }
 
-/// The answer to a document with a disciplined protocol.
-fn accepted_reply<R: Threads + Sync>(
-    rt: &R,
-    alloc: Global,
-    accepted: &Accepted,
-    tree: &RawTree,
-    work: &RawWork,
-    history: &[Firing],
-) -> Result<Reply, OutOfMemory>
-    ensures { IfOk result (λ r. IsRepliedTo (record { setup = document_of accepted.now tree.now work.now; history = history.now }) r.status r.text.items) }
-{
-    match set_up(alloc, accepted.protocol(), tree, work) {
-        Ok(lawful) => replayed(rt, alloc, accepted, &lawful, history),
-        Err(SetupError::Setup(fault)) => {
-            let text = setup_text(alloc, fault)?;
-            Ok(reply_with(Status::Setup, text))
-        }
-        Err(SetupError::OutOfMemory) => Err(OutOfMemory),
-    }
-}
-
-/// The answer to a document.
+/// The reply to a document.
 fn document_reply<R: Threads + Sync>(
     rt: &R,
     alloc: Global,
     document: Document,
 ) -> Result<Reply, OutOfMemory>
-    ensures { IfOk result (λ r. IsRepliedTo document r.status r.text.items) }
+    ensures { IfOk result (λ r. IsGroupReply document r.status r.text.items) }
 {
     let Document { setup, history } = document;
-    let WorkDocument {
-        protocol,
-        tree,
-        work,
-    } = setup;
-    match check(protocol) {
-        Ok(accepted) => accepted_reply(rt, alloc, &accepted, &tree, &work, history.as_slice()),
-        Err(refusal) => refused(alloc, &refusal),
+    match prepare(alloc, setup)? {
+        Prepared::ForJob(ready) => {
+            let reply = replayed(rt, alloc, &ready, history.as_slice());
+            letting_go(ready, reply)
+        }
+        Prepared::Answered(reply) => Ok(reply),
     }
 }
 
@@ -96,7 +66,7 @@ pub(crate) fn grouped<R: Threads + Sync>(
     bytes: &[u8],
 ) -> Result<Reply, OutOfMemory>
     requires { length bytes.now ≤ most_bytes }
-    ensures { IfOk result (λ r. IsGroupAnswer bytes.now r.status r.text.items) }
+    ensures { IfOk result (λ r. IsJobAnswer Job.Group bytes.now r.status r.text.items) }
 {
     match read_document(alloc, bytes) {
         Ok(document) => document_reply(rt, alloc, document),

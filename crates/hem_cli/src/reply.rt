@@ -4,16 +4,17 @@ ghost use Rattle.std.specs.Prelude.{◌≡◌, Some, option_map, string_bytes, I
 ghost use Rattle.hem_syntax.specs.Protocol.{Protocol};
 ghost use Rattle.hem_check.specs.Discipline.{first_broken};
 ghost use Rattle.hem_check.specs.Refused.{refusal_of};
-ghost use Rattle.hem_cli.specs.Answer.{IsRefused};
-ghost use Rattle.hem_cli.specs.Texts.{fault_text};
+ghost use Rattle.hem_cli.specs.Refusals.{IsRefused};
+ghost use Rattle.hem_cli.specs.Texts.{fault_text, setup_text};
 ghost use Rattle.hem_cli.specs.declared.status.Status.{Status};
 
 use crate::Status;
-use crate::fault_texts::fault_text;
+use crate::fault_texts::{fault_text, setup_text};
 use hem_base::OutOfMemory;
 use hem_check::Refusal;
 use hem_report::refusal_text;
 use hem_text::TextFault;
+use hem_tree::SetupFault;
 use std::alloc::Global;
 
 /// A status and the text that goes with it.
@@ -21,6 +22,13 @@ use std::alloc::Global;
 pub(crate) struct Reply {
     pub(crate) status: Status,
     pub(crate) text: Vec<u8>,
+}
+
+/// The answer, with what it was made from let go.
+pub(crate) fn letting_go<A: Drop, B>(_made_from: A, answer: B) -> B
+    ensures { result ≡ answer }
+{
+    answer
 }
 
 /// The reply of a status with a promised text.
@@ -59,4 +67,13 @@ pub(crate) fn refused(alloc: Global, refusal: &Refusal) -> Result<Reply, OutOfMe
 {
     let text = refusal_text(alloc, refusal)?;
     Ok(reply_with(Status::Refused, text))
+}
+
+/// The reply to a document of which the tree or the work isn't lawful.
+pub(crate) fn unlawful(alloc: Global, fault: SetupFault) -> Result<Reply, OutOfMemory>
+    ensures status { IfOk result (λ r. r.status ≡ Status.Setup) }
+    ensures text { IfOk result (λ r. r.text.items ≡ setup_text fault) }
+{
+    let text = setup_text(alloc, fault)?;
+    Ok(reply_with(Status::Setup, text))
 }

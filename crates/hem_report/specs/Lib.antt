@@ -5,3 +5,4 @@ pub mod StateText
 pub mod Places
 pub mod AcceptedText
 pub mod RefusalText
+pub mod JournalText

@@ -1,5 +1,5 @@
 use Rattle.hem_cli.proofs.Replies.{reply_after}
-use Rattle.hem_cli.specs.declared.job.Job.TheVariants.{Check, Group}
+use Rattle.hem_words.specs.declared.job.Job.TheVariants.{Check, Group}
 use Rattle.hem_cli.proofs.answer.job_reply.Goals as goal
 
 pub returns-in-Check-clause-after : goal.returns-in-Check-clause-after

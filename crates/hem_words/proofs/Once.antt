@@ -1,0 +1,64 @@
+-- Words ask for one job.
+use Rattle.std.proofs.Common.{◌≡◌, ◌∙◌, refl, sym, ap, ap₂, arith, ℕ, List, [], ◌∷◌, Option, Some, None}
+use Rattle.std.specs.Option.{option_map_or}
+use Rattle.hem_words.specs.CommandLine.{Given}
+use Rattle.hem_words.specs.Job.{IsNumber, IsCountOf, IsSeedOf, IsJobOf, AsksFor}
+use Rattle.hem_words.specs.declared.job.Job.{Job}
+use Rattle.hem_words.specs.declared.job.Job.TheVariants.{Check, Group, Walk, Make}
+
+-- the first letter of a text
+abbrev first_letter : List ℕ → ℕ
+first_letter [] = 0
+first_letter (x ∷ xs) = x
+
+-- the first letter of a job's word
+abbrev letter_of : Job → ℕ
+letter_of Check = 99
+letter_of Group = 103
+letter_of (Walk count seed) = 119
+letter_of (Make count seed) = 109
+
+-- the job given begins with the letter of the job's word
+letter : (g : Given) (job : Job) → IsJobOf g job → option_map_or first_letter g.job 0 ≡ letter_of job
+letter g Check is = ap (λ t. option_map_or first_letter t 0) is.0
+letter g Group is = ap (λ t. option_map_or first_letter t 0) is.0
+letter g (Walk count seed) is = ap (λ t. option_map_or first_letter t 0) is.0
+letter g (Make count seed) is = ap (λ t. option_map_or first_letter t 0) is.0
+
+counts_once : (text : Option (List ℕ)) (a b : Option ℕ) → IsCountOf text a → IsCountOf text b → a ≡ b
+counts_once None None None p q = refl
+counts_once None None (Some b) p q = absurd q
+counts_once None (Some a) b p q = absurd p
+counts_once (Some text) None b p q = absurd p
+counts_once (Some text) (Some a) None p q = absurd q
+counts_once (Some text) (Some a) (Some b) p q = ap Some (p.0.value ∙ sym q.0.value)
+
+seeds_once : (text : Option (List ℕ)) (a b : ℕ) → IsSeedOf text a → IsSeedOf text b → a ≡ b
+seeds_once None a b p q = p ∙ sym q
+seeds_once (Some text) a b p q = p.value ∙ sym q.value
+
+same_some : (a b : ℕ) → Some a ≡ Some b → a ≡ b
+same_some a b is = cc
+
+-- texts ask for one job: of two, where their letters are the same
+one_job : (g : Given) (a b : Job) → letter_of a ≡ letter_of b → IsJobOf g a → IsJobOf g b → a ≡ b
+one_job g Check Check same p q = refl
+one_job g Check Group same p q = absurd (omega (arith, same))
+one_job g Check (Walk count seed) same p q = absurd (omega (arith, same))
+one_job g Check (Make count seed) same p q = absurd (omega (arith, same))
+one_job g Group Check same p q = absurd (omega (arith, same))
+one_job g Group Group same p q = refl
+one_job g Group (Walk count seed) same p q = absurd (omega (arith, same))
+one_job g Group (Make count seed) same p q = absurd (omega (arith, same))
+one_job g (Walk count seed) Check same p q = absurd (omega (arith, same))
+one_job g (Walk count seed) Group same p q = absurd (omega (arith, same))
+one_job g (Walk a s) (Walk b t) same p q = ap₂ (λ x y. Walk x y) (counts_once g.count a b p.1 q.1) (seeds_once g.seed s t p.2 q.2)
+one_job g (Walk a s) (Make b t) same p q = absurd (omega (arith, same))
+one_job g (Make a s) Check same p q = absurd (omega (arith, same))
+one_job g (Make a s) Group same p q = absurd (omega (arith, same))
+one_job g (Make a s) (Walk b t) same p q = absurd (omega (arith, same))
+one_job g (Make a s) (Make b t) same p q = ap₂ (λ x y. Make x y) (same_some a b (counts_once g.count (Some a) (Some b) p.1 q.1)) (seeds_once g.seed s t p.2 q.2)
+
+-- words ask for one job
+pub asks_once : (words : List (List ℕ)) (a b : Job) → AsksFor words a → AsksFor words b → a ≡ b
+asks_once words a b p q = one_job _ a b (sym (letter _ a p.1) ∙ letter _ b q.1) p.1 q.1

@@ -1,0 +1,10 @@
+//! A law of the words, the contract of a function that does nothing.
+
+ghost use Rattle.std.specs.Prelude.{◌≡◌, ℕ, List};
+ghost use Rattle.hem_words.specs.Job.{AsksFor};
+ghost use Rattle.hem_words.specs.declared.job.Job.{Job};
+
+/// Words ask for one job at most.
+pub fn words_ask_for_one_job()
+    ensures once { (words : List (List ℕ)) (a b : Job) → AsksFor words a → AsksFor words b → a ≡ b }
+{}
