@@ -1,0 +1,13 @@
+pub mod Names
+pub mod Place
+pub mod Clauses
+pub mod Actions
+pub mod Emit
+pub mod Image
+pub mod Layout
+pub mod Formed
+pub mod Shows
+pub mod Sent
+pub mod Numbering
+pub mod Written
+pub mod Matches
