@@ -1,0 +1,2 @@
+mod SortedFirings
+mod Journal

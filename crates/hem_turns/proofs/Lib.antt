@@ -1,0 +1,4 @@
+mod Chosen
+mod TakenThere
+mod Ready
+mod Along
