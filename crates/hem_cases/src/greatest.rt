@@ -1,9 +1,8 @@
 //! One document at every limit at once: read, printed back, and replayed.
 
 use crate::call::answer;
-use crate::reading::protocol_of;
+use crate::reading::prints_as;
 use hem_cli::Status;
-use hem_print::protocol_text;
 use std::alloc::Global;
 use std::test::Fail;
 
@@ -20,18 +19,22 @@ fn name(alloc: Global, text: &mut String, sort: &str, number: u32) -> Result<(),
     Ok(())
 }
 
+/// Appends a message of a class.
+fn message(alloc: Global, text: &mut String, number: u32, class: &str) -> Result<(), Fail> {
+    text.push_str("message")?;
+    name(alloc, text, "m", number)?;
+    text.push_str(class)?;
+    Ok(())
+}
+
 /// Appends the 64 messages: a processor's request and its answer, a child's request and its answer, and more requests.
 fn messages(alloc: Global, text: &mut String) -> Result<(), Fail> {
-    for number in 0..64 {
-        let class = match number {
-            0 => " ext_req\n",
-            1 => " ext_rsp\n",
-            3 => " down_rsp\n",
-            _ => " up_req\n",
-        };
-        text.push_str("message")?;
-        name(alloc, text, "m", number)?;
-        text.push_str(class)?;
+    message(alloc, text, 0, " ext_req\n")?;
+    message(alloc, text, 1, " ext_rsp\n")?;
+    message(alloc, text, 2, " up_req\n")?;
+    message(alloc, text, 3, " down_rsp\n")?;
+    for number in 4..64 {
+        message(alloc, text, number, " up_req\n")?;
     }
     Ok(())
 }
@@ -48,15 +51,23 @@ fn fields(alloc: Global, text: &mut String) -> Result<(), Fail> {
     Ok(())
 }
 
-/// Appends 16 conditions, which hold at the start.
+/// Appends a condition on a field, which holds in each state.
+fn condition(alloc: Global, text: &mut String, field: u32) -> Result<(), Fail> {
+    name(alloc, text, "f", field)?;
+    text.push_str(" in")?;
+    for status in 0..4 {
+        name(alloc, text, "s", status)?;
+    }
+    Ok(())
+}
+
+/// Appends 16 conditions.
 fn guard(alloc: Global, text: &mut String) -> Result<(), Fail> {
-    for number in 0..16 {
-        text.push_str(if number == 0 { " when" } else { "," })?;
-        name(alloc, text, "f", number % 3)?;
-        text.push_str(" in")?;
-        for status in 0..4 {
-            name(alloc, text, "s", status)?;
-        }
+    text.push_str(" when")?;
+    condition(alloc, text, 0)?;
+    for number in 1..16 {
+        text.push_str(",")?;
+        condition(alloc, text, number % 3)?;
     }
     Ok(())
 }
@@ -141,16 +152,20 @@ fn requests(alloc: Global, text: &mut String) -> Result<(), Fail> {
     Ok(())
 }
 
+/// The greatest protocol's text, and behind it a tree, requests and a history.
+fn document(alloc: Global, protocol: &str) -> Result<Vec<u8>, Fail> {
+    let mut text = String::from_str(alloc, protocol)?;
+    text.push_str(TREE)?;
+    requests(alloc, &mut text)?;
+    Ok(text.into_bytes())
+}
+
 #[test]
 fn greatest_document(rt: HostRuntime) -> Result<(), Fail> {
     let alloc = rt.alloc();
-    let mut text = protocol(alloc)?;
-    let p = protocol_of(alloc, text.as_bytes())?;
-    let printed = protocol_text(alloc, &p)?;
-    assert_eq!(rt; printed.as_str(), text.as_str());
-    text.push_str(TREE)?;
-    requests(alloc, &mut text)?;
-    let (status, sink) = answer(&rt, alloc, text.into_bytes())?;
+    let text = protocol(alloc)?;
+    assert!(rt; prints_as(alloc, text.as_str(), text.as_str())?);
+    let (status, sink) = answer(&rt, alloc, document(alloc, text.as_str())?)?;
     assert_eq!(rt; status, Status::Done);
     assert!(rt;
         sink.bytes()

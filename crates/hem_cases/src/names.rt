@@ -29,15 +29,19 @@ fn declare(messages: &mut Named<Class>, text: &[u8], class: Class) -> Result<(),
 #[test]
 fn names_are_found(rt: HostRuntime) -> Result<(), Fail> {
     let mut names = Names::new(rt.alloc());
-    put(&mut names, b"I")?;
-    put(&mut names, b"M")?;
-    put(&mut names, b"I")?;
-    assert_eq!(rt; names.len(), 2);
-    assert_eq!(rt; names.place(b"I"), Some(0));
-    assert_eq!(rt; names.place(b"M"), Some(1));
-    assert_eq!(rt; names.place(b"S"), None);
-    assert_eq!(rt; names.place(b""), None);
+    for text in ["I", "M", "I"] {
+        put(&mut names, text.as_bytes())?;
+    }
+    assert!(rt; names.len() == 2);
+    for (text, place) in [("I", Some(0)), ("M", Some(1)), ("S", None), ("", None)] {
+        assert!(rt; names.place(text.as_bytes()) == place);
+    }
     Ok(())
+}
+
+/// The class of the message at a place.
+fn class_at(messages: &Named<Class>, place: usize) -> Option<Class> {
+    messages.value(place).copied()
 }
 
 #[test]
@@ -46,9 +50,9 @@ fn messages_are_found(rt: HostRuntime) -> Result<(), Fail> {
     declare(&mut messages, b"Ld", Class::ExtReq)?;
     declare(&mut messages, b"LdR", Class::ExtReq)?;
     messages.set_last(Class::ExtRsp);
-    assert_eq!(rt; messages.len(), 2);
-    assert_eq!(rt; messages.place(b"LdR"), Some(1));
-    assert_eq!(rt; messages.value(0).copied(), Some(Class::ExtReq));
-    assert_eq!(rt; messages.value(1).copied(), Some(Class::ExtRsp));
+    assert!(rt; messages.len() == 2);
+    assert!(rt; messages.place(b"LdR") == Some(1));
+    assert!(rt; class_at(&messages, 0) == Some(Class::ExtReq));
+    assert!(rt; class_at(&messages, 1) == Some(Class::ExtRsp));
     Ok(())
 }

@@ -1,23 +1,15 @@
 //! Protocols print back: the shipped ones as they stand, others in their canonical form.
 
-use crate::reading::protocol_of;
-use hem_print::protocol_text;
-use hem_shipped::{MESI_INCLUSIVE, MESI_NONINCLUSIVE, MSI_INCLUSIVE, MSI_NONINCLUSIVE};
-use std::alloc::Global;
+use crate::reading::prints_as;
+use hem_shipped::shipped;
 use std::test::Fail;
 
-/// Texts of protocols, each with what it prints as.
-static TEXTS: [(&str, &str); 10] = [
-    (MSI_INCLUSIVE, MSI_INCLUSIVE),
-    (MESI_INCLUSIVE, MESI_INCLUSIVE),
-    (MSI_NONINCLUSIVE, MSI_NONINCLUSIVE),
-    (MESI_NONINCLUSIVE, MESI_NONINCLUSIVE),
-    ("use msi_inclusive", MSI_INCLUSIVE),
-    ("use mesi_inclusive", MESI_INCLUSIVE),
-    ("use msi_noninclusive", MSI_NONINCLUSIVE),
-    ("use mesi_noninclusive", MESI_NONINCLUSIVE),
-    (FREE_FORM, CANONICAL),
-    (CANONICAL, CANONICAL),
+/// The shipped protocols, each with the text that names it.
+const SHIPPED: [(&str, &str); 4] = [
+    ("msi_inclusive", "use msi_inclusive"),
+    ("mesi_inclusive", "use mesi_inclusive"),
+    ("msi_noninclusive", "use msi_noninclusive"),
+    ("mesi_noninclusive", "use mesi_noninclusive"),
 ];
 
 /// A protocol with blanks, comments, sets in any order and zeros of any length.
@@ -48,21 +40,16 @@ end
 end
 ";
 
-fn texts() -> &'static [(&'static str, &'static str)] {
-    &TEXTS
-}
-
-/// A protocol's text, read and printed.
-fn printed(alloc: Global, text: &str) -> Result<String, Fail> {
-    let p = protocol_of(alloc, text.as_bytes())?;
-    Ok(protocol_text(alloc, &p)?)
-}
-
 #[test]
 fn protocols_print_back(rt: HostRuntime) -> Result<(), Fail> {
-    for (text, want) in texts() {
-        let printed = printed(rt.alloc(), text)?;
-        assert_eq!(rt; printed.as_str(), *want);
+    let alloc = rt.alloc();
+    for (name, used) in SHIPPED {
+        let text = shipped(name.as_bytes()).ok_or("not shipped")?;
+        assert!(rt; prints_as(alloc, text, text)?);
+        assert!(rt; prints_as(alloc, used, text)?);
+    }
+    for text in [FREE_FORM, CANONICAL] {
+        assert!(rt; prints_as(alloc, text, CANONICAL)?);
     }
     Ok(())
 }

@@ -6,6 +6,14 @@ use hem_tree::{Tree, read_tree};
 use std::alloc::Global;
 use std::test::Fail;
 
+/// The number of an object that is there.
+fn number_of(o: Option<ObjectId>) -> Option<u32> {
+    match o {
+        Some(o) => Some(o.0),
+        None => None,
+    }
+}
+
 /// A tree's objects, each as its kind, its parent, its level, its children, and those that are under it.
 fn shown(alloc: Global, tree: &Tree) -> Result<String, Fail> {
     let mut text = String::new(alloc);
@@ -13,7 +21,7 @@ fn shown(alloc: Global, tree: &Tree) -> Result<String, Fail> {
         let o = ObjectId(o);
         let kind = tree.kind(o);
         let depth = tree.depth(o);
-        let parent = tree.parent(o).map(|p| p.0);
+        let parent = number_of(tree.parent(o));
         text.push_str(format!(in alloc; " {kind:?}{depth} {parent:?}")?.as_str())?;
         for child in tree.children(o) {
             let child = child.0;
