@@ -9,8 +9,21 @@
     python3 bench/make.py comments N    N bytes of comments in front of a small document
     python3 bench/make.py signs N       N bytes, each a token: no document, and what is held of tokens is the most
     python3 bench/make.py alone N       N firings of six bytes, each a transaction of its own
+
+and for the jobs `walk` and `make`, without a history:
+
+    python3 bench/make.py load          noninclusive MESI, eight leaves below two mids, 4 lines, no requests of its own
+    python3 bench/make.py misses N      N requests on that tree: stores and loads in turn, at each leaf on each line; the
+                                        leaves answer their parent first, so that mostly another leaf has the line
+    python3 bench/make.py idle N        inclusive MSI, 64 objects and 16 lines, N requests of one leaf on one line
 """
+import os
 import sys
+
+sys.path.insert(0, os.path.join(os.path.dirname(os.path.dirname(os.path.abspath(__file__))), 'compare'))
+sys.dont_write_bytecode = True
+
+from shipped import SHIPPED
 
 ONE_STEP = """protocol cells
 status Empty Full
@@ -216,11 +229,47 @@ def alone(count):
     yield ALONE + LEAVES + 'work lines 1 self 0 end\nhistory\n' + '0 0 r\n' * count + 'end\n'
 
 
+LOAD = 'tree root(mid(leaf leaf leaf leaf) mid(leaf leaf leaf leaf))\nwork lines 4 self 2\n'
+
+
+def load():
+    """The tree of the realistic load, whose requests are to be generated."""
+    yield 'use mesi_noninclusive\n' + LOAD + 'end\n'
+
+
+def yielding():
+    """Noninclusive MESI of which leaves answer their parent before their processor, since a walk takes the first rule."""
+    protocol = SHIPPED['mesi_noninclusive']
+    before, leaf = protocol.split('kind leaf\nfield st init I\n')
+    rules = leaf.split('\n')
+    first = [rule for rule in rules if ' take parent ' in rule]
+    rest = [rule for rule in rules if rule not in first]
+    return before + 'kind leaf\nfield st init I\n' + '\n'.join(first + rest)
+
+
+def misses(count):
+    """Each line is written by all leaves in turn, so that mostly another leaf has it."""
+    places = [(leaf, line) for line in range(4) for leaf in (2, 3, 4, 5, 7, 8, 9, 10)]
+    yield yielding() + LOAD
+    for k, (leaf, line) in enumerate(places):
+        own = range(k, count, len(places))
+        yield 'at %d line %d%s\n' % (leaf, line, ''.join(' Ld 0' if j % 2 else ' St %d' % i for j, i in enumerate(own)))
+    yield 'end\n'
+
+
+def idle(count):
+    """All objects but one leaf, and what lies above it, have nothing to do."""
+    yield 'use msi_inclusive\ntree root(%s)\n' % ' '.join(['mid(%s)' % ' '.join(['leaf'] * 8)] * 7)
+    yield 'work lines 16 self 0\nat 2 line 0%s\nend\n' % ''.join(' St 1' if k % 2 else ' Ld 0' for k in range(count))
+
+
 def main(words):
     makers = {'one-step': one_step, 'rounds': rounds, 'stores': stores, 'entries': entries, 'comments': comments,
-              'signs': signs, 'alone': alone}
+              'signs': signs, 'alone': alone, 'misses': misses, 'idle': idle}
     if words == ['protocol']:
         pieces = greatest_protocol()
+    elif words == ['load']:
+        pieces = load()
     elif len(words) == 2 and words[0] in makers and words[1].isdigit():
         pieces = makers[words[0]](int(words[1]))
     else:

@@ -18,6 +18,16 @@ measure() {
     printf '%s: ' "$*"
     python3 bench/ratio.py measure "$program" "$folder/plain" "$folder/document" || exit 1
 }
+# The words of the program are the first, and those of bench/make.py follow.
+measure_by() {
+    words=$1
+    shift
+    python3 bench/make.py "$@" >"$folder/document" || exit 1
+    printf '%s, %s: ' "$words" "$*"
+    # The job and its options are words of their own.
+    # shellcheck disable=SC2086
+    python3 bench/ratio.py measure "$program" "$folder/plain" "$folder/document" $words || exit 1
+}
 for size in 10000 100000; do measure one-step "$size"; done
 for size in 100000 1000000; do measure rounds "$size"; done
 for size in 100000 1000000; do measure stores "$size"; done
@@ -26,3 +36,9 @@ measure protocol
 for size in 3300000 33000000; do measure comments "$size"; done
 measure signs 33554432
 measure alone 1000000
+for count in 10000 100000; do measure_by "walk --count $count --seed 7" load; done
+# One request is generated, so that the summary alone is printed.
+for size in 9999 99999; do measure_by 'walk --count 1' misses "$size"; done
+for size in 9999 99999; do measure_by 'walk --count 1' idle "$size"; done
+for size in 10000 100000; do measure_by walk misses "$size"; done
+for count in 10000 100000; do measure_by "make --count $count" load; done

@@ -10,7 +10,9 @@ import random
 import grouping
 import protocols
 import reading
-import reference
+import system
+from discipline import template
+from printing import firing_text
 from shipped import SHIPPED
 from writing import protocol_tokens
 
@@ -66,7 +68,7 @@ def changed_part(rng, protocol, kind, part, boldness):
     """A kind with some of its rules changed, left out and doubled, and all in another order."""
     rules = []
     for rule in part.rules.values():
-        name = reference.template(protocol, kind, rule)
+        name = template(protocol, kind, rule)
         if rng.random() < boldness / 3:
             continue
         if rng.random() < boldness / 3 and len(part.rules) < 40:
@@ -122,7 +124,7 @@ class Walker:
 
     def __init__(self, protocol, nodes, work):
         self.protocol, self.nodes = protocol, nodes
-        self.state = reference.start_state(protocol, nodes, work)
+        self.state = system.start_state(protocol, nodes, work)
         self.rules = {kind: list(part.rules.values()) for kind, part in protocol.kinds.items()}
         self.near = [[place] + [k for k in range(len(nodes)) if nodes[k].parent == place or nodes[place].parent == k]
                      for place in range(len(nodes))]
@@ -145,7 +147,7 @@ class Walker:
                 continue
             for me in asking if side == 'me' else [None]:
                 firing = reading.Firing(line, place, rule.name, me)
-                plan = reference.plan(self.protocol, self.state, firing)
+                plan = system.plan(self.protocol, self.state, firing)
                 if plan is not None:
                     yield firing, side, plan
 
@@ -155,14 +157,14 @@ class Walker:
         if not choices:
             return False
         firing, _, plan = rng.choices(choices, [mood[side] for _, side, _ in choices])[0]
-        reference.fire(self.state, firing, plan, len(self.history))
+        system.fire(self.state, firing, plan, len(self.history))
         self.history.append(firing)
         self.look(firing.line, self.near[firing.object])
         return True
 
 
 def history_text(history):
-    return 'history\n%s\nend\n' % '\n'.join(reference.firing_text(firing) for firing in history)
+    return 'history\n%s\nend\n' % '\n'.join(firing_text(firing) for firing in history)
 
 
 def head(rng):

@@ -20,6 +20,8 @@ import grouping
 import order
 import reference
 import run
+import system
+from printing import state_lines
 
 
 OF_A_TASK = 500
@@ -36,7 +38,7 @@ def of_account(its, history, found):
         return 'other firings'
     if again is None:
         return 'the blocks do not run'
-    if reference.state_lines(found.state) != reference.state_lines(again.state):
+    if state_lines(found.state) != state_lines(again.state):
         return 'another state'
     if not order.are_blocks(again.steps, [len(firings) for _, firings in found.blocks]):
         return 'no blocks'
@@ -62,7 +64,7 @@ def parts_of(text):
 def of_program(program, its, history, found):
     """What is wrong with a program's answers to a history and to its blocks, or nothing."""
     got = program.answer(['group'], its.bytes(history))
-    if got != (0, ('\n'.join(grouping.lines_of(found)) + '\n').encode('latin-1')):
+    if got != (0, ('\n'.join(reference.grouped_lines(found)) + '\n').encode('latin-1')):
         return 'another answer than that of the account'
     blocks, state = parts_of(got[1])
     lines = [line for block in blocks for line in block]
@@ -77,7 +79,7 @@ def features(history, found):
     """What the table of the documents counts."""
     numbers = [number for number, _ in found.blocks]
     yield 'documents'
-    yield 'quiet' if reference.quiet(found.state) else 'open'
+    yield 'quiet' if system.quiet(found.state) else 'open'
     if len({firing.line for firing in history}) > 1:
         yield 'of several lines'
     if firings_of(found.blocks) != history:

@@ -2,10 +2,11 @@
 
     python3 examples.py [PROGRAM]
 
-The answers are those of the reference, and those of the program where one is given. An example whose first line is
-`# hem check` is run by the job `check`, every other by `group`. The index `examples/README.md` names each example, its
-status and its first line; `NAME.out` has the text. Also checked: the texts of the shipped protocols, the rules and answers
-that `docs/DISCIPLINE.md` shows, and what `docs/EXPLAIN.md` shows of `tools/explain`.
+The answers are those of the reference, and those of the program where one is given. An example's first line may name the
+words that it is run by, as `# hem walk --seed 3`; every other is run by the word `group`. The index `examples/README.md`
+names each example, its status and its first line; `NAME.out` has the text. Also checked: the texts of the shipped protocols,
+the rules and answers that `docs/DISCIPLINE.md` shows, the answers that `docs/LANGUAGE.md` shows, and what `docs/EXPLAIN.md`
+shows of `tools/explain`.
 """
 import glob
 import os
@@ -14,11 +15,11 @@ import subprocess
 import sys
 
 import reference
-from reading import job_of
+import words
 from shipped import SHIPPED
 
 ROOT = os.path.dirname(os.path.dirname(os.path.abspath(__file__)))
-EXAMPLES = os.path.join(ROOT, 'examples')
+
 
 def text_of(*names):
     with open(os.path.join(ROOT, *names), encoding='latin-1') as file:
@@ -33,9 +34,9 @@ def wrong_charts():
     """The charts among the documents that `tools/chart` draws otherwise."""
     page = text_of('docs', 'CHARTS.md')
     for name, picture in re.findall(r'^!\[(examples/\w+\.hem)\]\((\w+\.svg)\)$', page, re.M):
-        words = [os.path.join(ROOT, 'tools', 'chart'), os.path.join(ROOT, name), '--account']
+        command = [os.path.join(ROOT, 'tools', 'chart'), os.path.join(ROOT, name), '--account']
         with open(os.path.join(ROOT, 'docs', picture), encoding='utf-8') as file:
-            if subprocess.run(words, stdout=subprocess.PIPE).stdout.decode() != file.read():
+            if subprocess.run(command, stdout=subprocess.PIPE).stdout.decode() != file.read():
                 yield 'docs/' + picture
 
 
@@ -48,10 +49,10 @@ def rows():
 def of_program(path):
     """What answers an example: the reference, or a program."""
     if path is None:
-        return lambda document: reference.answer([job_of(document)], document.encode('latin-1'))
+        return lambda document: reference.answer(words.of_document(document), document.encode('latin-1'))
 
     def answer(document):
-        ran = subprocess.run([path, job_of(document)], input=document.encode('latin-1'), stdout=subprocess.PIPE)
+        ran = subprocess.run([path] + words.of_document(document), input=document.encode('latin-1'), stdout=subprocess.PIPE)
         return ran.returncode, ran.stdout.decode('latin-1')
     return answer
 
@@ -90,13 +91,22 @@ def wrong_in_discipline():
             yield 'docs/DISCIPLINE.md: ' + line
 
 
+def wrong_in_language():
+    """The answers to examples that `docs/LANGUAGE.md` shows whole and otherwise than they are recorded."""
+    form = r'^(?:[^\n]* )?For `examples/(\w+)\.hem`[^\n]*:\n\n```\n(.*?)^```$'
+    shown = re.findall(form, text_of('docs', 'LANGUAGE.md'), re.M | re.S)
+    for name, answer in shown:
+        if text_of('examples', name + '.out') != answer:
+            yield 'docs/LANGUAGE.md: the answer to examples/%s.hem' % name
+
+
 def wrong_explanations(path):
     """The files of which `docs/EXPLAIN.md` shows another explanation than `tools/explain` gives."""
     shown = re.findall(r'^```\n\$ (tools/explain (\S+))\n(.*?)^```$', text_of('docs', 'EXPLAIN.md'), re.M | re.S)
-    for command, name, text in shown:
-        words = [os.path.join(ROOT, 'tools', 'explain'), os.path.join(ROOT, name), '--program', path]
-        if subprocess.run(words, stdout=subprocess.PIPE).stdout.decode() != text:
-            yield 'docs/EXPLAIN.md: ' + command
+    for shown_command, name, text in shown:
+        command = [os.path.join(ROOT, 'tools', 'explain'), os.path.join(ROOT, name), '--program', path]
+        if subprocess.run(command, stdout=subprocess.PIPE).stdout.decode() != text:
+            yield 'docs/EXPLAIN.md: ' + shown_command
     if not shown:
         yield 'docs/EXPLAIN.md shows nothing'
 
@@ -104,6 +114,7 @@ def wrong_explanations(path):
 def main():
     path = os.path.abspath(sys.argv[1]) if len(sys.argv) > 1 else None
     wrong = list(wrong_answers(of_program(None))) + list(wrong_protocols()) + list(wrong_in_discipline())
+    wrong += list(wrong_in_language())
     if path is not None:
         wrong += ['%s, by the program' % name for name in wrong_answers(of_program(path))]
         wrong += wrong_explanations(path)

@@ -1,13 +1,9 @@
-"""The account of the job `group` with the blocks of every protocol, in the printed order.
-
-    python3 grouping.py < DOCUMENT
-"""
-import sys
+"""Histories with their blocks, in the printed order."""
 from collections import namedtuple
 
 import order
-import reference
-from reading import Reader
+import system
+from discipline import template
 
 # What a history that runs leads to: its steps, the blocks, and the state.
 Grouped = namedtuple('Grouped', 'steps blocks state')
@@ -24,7 +20,7 @@ def channels_of(state):
 def upward_rules(protocol):
     """The rules that send a request up, each as its kind and name."""
     return {(kind, name) for kind, part in protocol.kinds.items() for name, rule in part.rules.items()
-            if reference.template(protocol, kind, rule) in ('rq_up', 'rq_up_self')}
+            if template(protocol, kind, rule) in ('rq_up', 'rq_up_self')}
 
 
 def steps_of(protocol, nodes, state, history, upward=None):
@@ -33,48 +29,23 @@ def steps_of(protocol, nodes, state, history, upward=None):
     upward = upward_rules(protocol) if upward is None else upward
     steps = []
     for place, firing in enumerate(history):
-        plan = reference.plan(protocol, state, firing)
+        plan = system.plan(protocol, state, firing)
         if plan is None:
             break
         node = nodes[firing.object]
         taken = [channels[id(queue)] for queue in plan.queues if id(queue) in channels]
         sent = [channels[id(goal)] for goal in plan.goals if id(goal) in channels]
         is_upward = (node.kind, firing.rule) in upward
-        reference.fire(state, firing, plan, place)
+        system.fire(state, firing, plan, place)
         steps.append(order.Step(firing.line, firing.object, node.level, taken, sent, is_upward))
     return steps
 
 
 def grouped(protocol, nodes, work, history, upward=None):
     """What a history leads to from the start, or None where it doesn't run."""
-    state = reference.start_state(protocol, nodes, work)
+    state = system.start_state(protocol, nodes, work)
     steps = steps_of(protocol, nodes, state, history, upward)
     if len(steps) < len(history):
         return None
     blocks = [(number, [history[i] for i in places]) for number, places in order.printed(steps)]
     return Grouped(steps, blocks, state)
-
-
-def lines_of(found):
-    """The lines of the answer to a history that runs."""
-    word = 'quiet' if reference.quiet(found.state) else 'open'
-    return [word] + reference.block_lines(found.blocks) + reference.state_lines(found.state)
-
-
-def answer(document):
-    """The status and the text for the bytes of a document."""
-    status, text = reference.answer(['group'], document)
-    if status == 0:
-        text = '\n'.join(lines_of(grouped(*Reader(document.decode('latin-1')).document()))) + '\n'
-    return status, text
-
-
-def main():
-    status, text = answer(sys.stdin.buffer.read())
-    sys.stdout.write(text)
-    sys.stdout.flush()
-    sys.exit(status)
-
-
-if __name__ == '__main__':
-    main()

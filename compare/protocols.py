@@ -1,6 +1,6 @@
 """Random protocols, trees, works and histories, and the documents that they make."""
 import reading
-import reference
+import system
 from shipped import SHIPPED
 from texts import data, layout
 
@@ -219,7 +219,7 @@ def possible_somewhere(rng, protocol, state):
         if found and k >= 12:
             break
         for firing in candidates(protocol, state, line, where):
-            if reference.plan(protocol, state, firing) is not None:
+            if system.plan(protocol, state, firing) is not None:
                 found.append(firing)
                 take = protocol.kinds[state[line][where].kind].rules[firing.rule].take[0]
                 weights.append(WEIGHTS[take])
@@ -233,7 +233,7 @@ def walk(rng, protocol, state, most):
         firing = possible_somewhere(rng, protocol, state)
         if firing is None:
             break
-        reference.fire(state, firing, reference.plan(protocol, state, firing), len(history))
+        system.fire(state, firing, system.plan(protocol, state, firing), len(history))
         history.append(firing)
     return history
 
@@ -280,7 +280,7 @@ def with_histories(rng, head, most, variants):
     """Documents with a random history after these tokens, and with other last firings."""
     text = layout(rng, head)
     protocol, nodes_read, work_read = read_setup(text + ' history end')
-    state = reference.start_state(protocol, nodes_read, work_read)
+    state = system.start_state(protocol, nodes_read, work_read)
     history = walk(rng, protocol, state, most)
     if not any(part.rules for part in protocol.kinds.values()):
         yield data(text + ' history end')
@@ -288,8 +288,8 @@ def with_histories(rng, head, most, variants):
     yield data(text + ' ' + layout(rng, ['history'] + firing_tokens(history) + ['end']))
     for _ in range(variants):
         cut = rng.choice([len(history), len(history), rng.randint(0, len(history))])
-        state = reference.start_state(protocol, nodes_read, work_read)
-        reference.replay(protocol, state, history[:cut])
+        state = system.start_state(protocol, nodes_read, work_read)
+        system.replay(protocol, state, history[:cut])
         last = [last_firing(rng, protocol, state) for _ in range(rng.choice([1, 1, 2]))]
         yield data(text + ' history ' + ' '.join(firing_tokens(history[:cut] + last)) + ' end')
 

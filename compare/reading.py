@@ -63,12 +63,6 @@ def within(digits, bound):
     return len(digits.lstrip('0')) <= 20 and value_of(digits) <= bound
 
 
-def job_of(text):
-    """The job that a document names in its first line, as `# hem check`, or else `group`."""
-    named = re.match(r'# hem (check|group)\r?\n', text)
-    return named.group(1) if named else 'group'
-
-
 # What may stand at a place
 
 class Choice:
@@ -388,6 +382,13 @@ class Reader:
         protocol = self.protocol()
         self.step(Choice('end'))
         return protocol
+
+    def setup(self):
+        protocol = self.protocol()
+        nodes = self.tree()
+        work = self.work(protocol)
+        self.step(Choice('end'))
+        return protocol, nodes, work
 
     def document(self):
         protocol = self.protocol()

@@ -1,377 +1,30 @@
-"""A slow and plain account of the jobs `check` and `group`, written apart from the program.
+"""A slow and plain account of the jobs, written apart from the program.
 
     python3 reference.py check < DOCUMENT
     python3 reference.py group < DOCUMENT
+    python3 reference.py walk [--count N] [--seed N] < DOCUMENT
+    python3 reference.py make --count N [--seed N] < DOCUMENT
 
 `answer(words, data)` gives the status and the text for any words and bytes. It shares
 nothing with the program: it is there to be compared with it.
 """
 import sys
-from collections import namedtuple
 
-from discipline import REQUESTS, accepted_lines, first_broken, refusal_text, template
+import grouping
+import walking
+import words
+import writing
+from discipline import accepted_lines, first_broken, refusal_text
+from printing import block_lines, journal_lines, state_lines
 from reading import Fault, Reader, place_of
+from setup import check_tree, check_work
+from system import quiet, replay, start_state
 
 INPUT_LIMIT = 33554432
-OBJECT_LIMIT = 64
-CHILD_LIMIT = 8
-LEVEL_LIMIT = 8
-LINE_LIMIT = 16
-SELF_LIMIT = 1000
-REQUEST_LIMIT = 100000
-START_LIMIT = 200000
-
-
-# The setup
-
-def check_tree(nodes):
-    """Raises the first fault of the tree."""
-    children = {}
-    for place, node in enumerate(nodes):
-        if place >= OBJECT_LIMIT:
-            raise Fault('setup', node.start, 'objects')
-        children[node.parent] = children.get(node.parent, 0) + 1
-        if children[node.parent] > CHILD_LIMIT:
-            raise Fault('setup', node.start, 'children')
-        if node.level > LEVEL_LIMIT:
-            raise Fault('setup', node.start, 'levels')
-
-
-def check_work(work, protocol, nodes):
-    """Raises the first fault of the work, for a lawful tree."""
-    if not 1 <= work.lines <= LINE_LIMIT:
-        raise Fault('setup', work.lines_start, 'lines')
-    if work.self_count > SELF_LIMIT:
-        raise Fault('setup', work.self_start, 'self')
-    count = 0
-    for where, where_start, line, line_start, requests in work.entries:
-        if where >= len(nodes) or nodes[where].kind != 'leaf':
-            raise Fault('setup', where_start, 'object')
-        if line >= work.lines:
-            raise Fault('setup', line_start, 'line')
-        for message, _, start in requests:
-            if protocol.messages[message] != 'ext_req':
-                raise Fault('setup', start, 'request')
-            count += 1
-            if count > REQUEST_LIMIT:
-                raise Fault('setup', start, 'requests')
-    if count + work.self_count * len(nodes) * work.lines > START_LIMIT:
-        raise Fault('setup', work.start, 'starts')
-
-
-# States
-
-Message = namedtuple('Message', 'id value number')
-Lock = namedtuple('Lock', 'origin id value awaited')
-LANES = ('uprq', 'uprs', 'down', 'req', 'ans')
-
-
-class Object:
-    """One object on one line: its own state and the lists that end at it or go up from it."""
-
-    def __init__(self, protocol, nodes, place):
-        self.kind = nodes[place].kind
-        self.parent = nodes[place].parent
-        self.children = [k for k, node in enumerate(nodes) if node.parent == place]
-        part = protocol.kinds[self.kind]
-        self.fields = dict(part.fields)
-        self.dir = {child: part.dir for child in self.children}
-        self.val = 0
-        self.up = self.down = None
-        self.lists = {lane: [] for lane in LANES}
-
-
-def start_state(protocol, nodes, work):
-    """For each line the objects at the start."""
-    state = [[Object(protocol, nodes, k) for k in range(len(nodes))] for _ in range(work.lines)]
-    for where, _, line, _, requests in work.entries:
-        state[line][where].lists['req'] += [Message(name, value, None) for name, value, _ in requests]
-    return state
-
-
-class View:
-    """What a firing at one object can name; what doesn't exist is None."""
-
-    def __init__(self, objects, here, rule, me):
-        side, taken_id = rule.take
-        self.here, self.taken, self.queues = here, [], []
-        self.requester = self.msg = self.kept = self.rs = self.targets = None
-        if side == 'me':
-            self.requester = 'cpu' if here.kind == 'leaf' else me
-            self.queues = [here.lists['req'] if here.kind == 'leaf' else objects[me].lists['uprq']]
-        elif side == 'parent':
-            self.kept = here.up
-            if here.up is not None and (here.up.origin == 'cpu' or isinstance(here.up.origin, int)):
-                self.requester = here.up.origin
-            self.queues = [here.lists['down']]
-        elif side == 'kids' and here.down is not None:
-            self.kept = here.down
-            if isinstance(here.down.origin, int):
-                self.requester = here.down.origin
-            self.targets = here.down.awaited
-            self.queues = [objects[child].lists['uprs'] for child in here.down.awaited]
-        self.there = side == 'none' or bool(self.queues)
-        for queue in self.queues:
-            if not queue or queue[0].id != taken_id:
-                self.there = False
-            else:
-                self.taken.append(queue[0])
-        if self.there and side in ('me', 'parent'):
-            self.msg = self.taken[0].value
-        if self.there and side == 'kids':
-            self.rs = self.taken[0].value
-
-    def others(self):
-        return [child for child in self.here.children if child != self.requester]
-
-    def value(self, name):
-        if name == '0':
-            return 0
-        if name == 'val':
-            return self.here.val
-        if name == 'kept':
-            return None if self.kept is None else self.kept.value
-        return self.msg if name == 'msg' else self.rs
-
-
-def need_holds(need, lock):
-    """Whether a need on a lock holds."""
-    if need == 'any':
-        return True
-    if lock is None:
-        return need == 'free'
-    if need == 'child':
-        return lock.origin == 'cpu' or isinstance(lock.origin, int)
-    return need == lock.origin
-
-
-def atom_holds(atom, view):
-    """Whether all that an atom names exists and it holds."""
-    name, more, chosen = atom
-    here = view.here
-    if name == 'field':
-        return here.fields[more] in chosen
-    if name == 'asked':
-        return view.kept is not None and view.kept.id == chosen
-    if name == 'me':
-        return view.requester in here.dir and here.dir[view.requester] in chosen
-    if name == 'others' and view.requester is None:
-        return False
-    among = here.children if name == 'kids' else view.others()
-    tests = [here.dir[child] in chosen for child in among]
-    return all(tests) if more == 'all' else any(tests)
-
-
-def new_values(rule, view):
-    """The field, value and directory changes of the sets, or None where a name doesn't exist."""
-    fields, entries, val = {}, {}, None
-    for place, what in rule.sets:
-        if place == 'val':
-            val = view.value(what)
-            if val is None:
-                return None
-        elif place == 'targets':
-            if view.targets is None:
-                return None
-        elif place == 'me':
-            if view.requester not in view.here.dir:
-                return None
-        else:
-            fields[place] = what
-    sets = dict(rule.sets)
-    if 'targets' in sets:
-        entries.update({child: sets['targets'] for child in view.targets})
-    if 'me' in sets:
-        entries[view.requester] = sets['me']
-    return fields, entries, val
-
-
-def destination(protocol, rule, view, objects):
-    """The lists to which a rule sends and the children among them, or None where there is no such place."""
-    to, chosen, message, _ = rule.send
-    here = view.here
-    if to == 'me':
-        if view.requester is None:
-            return None
-        own = view.requester == 'cpu'
-        return [here.lists['ans'] if own else objects[view.requester].lists['down']], []
-    if to == 'parent':
-        if here.parent is None:
-            return None
-        return [here.lists['uprs' if protocol.messages[message] == 'up_rsp' else 'uprq']], []
-    among = here.children if to == 'kids' else view.others()
-    if to == 'others' and view.requester is None:
-        return None
-    targets = [child for child in among if here.dir[child] in chosen]
-    if not targets:
-        return None
-    return [objects[child].lists['down'] for child in targets], targets
-
-
-def in_hand(protocol, rule, view, sent):
-    """The request that a lock of the rule keeps, or None."""
-    side = rule.take[0]
-    if side in ('me', 'parent') and protocol.messages[view.taken[0].id] in REQUESTS:
-        return view.taken[0].id, view.taken[0].value
-    if side in ('parent', 'kids'):
-        return None if view.kept is None else (view.kept.id, view.kept.value)
-    return sent if side == 'none' else None
-
-
-class Plan:
-    """All that a possible firing does."""
-
-    def __init__(self):
-        self.queues, self.taken, self.changes, self.free, self.lock = [], [], None, None, None
-        self.goals, self.sent, self.starts = [], None, False
-
-
-def plan(protocol, state, firing):
-    """What a firing does in a state, or None where it isn't possible there."""
-    if firing.line >= len(state) or firing.object >= len(state[firing.line]):
-        return None
-    objects = state[firing.line]
-    here = objects[firing.object]
-    rule = protocol.kinds[here.kind].rules.get(firing.rule)
-    if rule is None:
-        return None
-    if rule.take[0] == 'me' and here.kind != 'leaf':
-        if firing.me not in here.children:
-            return None
-    elif firing.me is not None:
-        return None
-    view = View(objects, here, rule, firing.me)
-    if not view.there or not need_holds(rule.up, here.up) or not need_holds(rule.down, here.down):
-        return None
-    if not all(atom_holds(atom, view) for atom in rule.guard):
-        return None
-    result = Plan()
-    result.changes = new_values(rule, view)
-    if result.changes is None:
-        return None
-    targets = []
-    if rule.send is not None:
-        goals = destination(protocol, rule, view, objects)
-        value = view.value(rule.send[3])
-        if goals is None or value is None:
-            return None
-        result.goals, targets = goals
-        result.sent = (rule.send[2], value)
-    if rule.lock is not None:
-        side, origin = rule.lock
-        held = view.requester if origin == 'child' else origin
-        request = in_hand(protocol, rule, view, result.sent)
-        if held is None or request is None:
-            return None
-        result.lock = side, Lock(held, request[0], request[1], targets if side == 'down' else [])
-    result.free = rule.free
-    result.queues, result.taken = view.queues, view.taken
-    result.starts = rule.take[0] == 'none' or (rule.take[0] == 'me' and here.kind == 'leaf')
-    return result
-
-
-def fire(state, firing, steps, place):
-    """Makes a possible firing and answers the number of its transaction."""
-    here = state[firing.line][firing.object]
-    transaction = place if steps.starts else steps.taken[0].number
-    for queue in steps.queues:
-        queue.pop(0)
-    fields, entries, val = steps.changes
-    here.fields.update(fields)
-    here.dir.update(entries)
-    if val is not None:
-        here.val = val
-    if steps.free == 'up':
-        here.up = None
-    if steps.free == 'down':
-        here.down = None
-    if steps.lock is not None and steps.lock[0] == 'up':
-        here.up = steps.lock[1]
-    if steps.lock is not None and steps.lock[0] == 'down':
-        here.down = steps.lock[1]
-    for goal in steps.goals:
-        goal.append(Message(steps.sent[0], steps.sent[1], transaction))
-    return transaction
-
-
-def quiet(state):
-    """Whether only answers are left and no lock is held."""
-    for objects in state:
-        for here in objects:
-            if here.up is not None or here.down is not None:
-                return False
-            if any(here.lists[lane] for lane in LANES if lane != 'ans'):
-                return False
-    return True
-
-
-# The printed order
-
-def firing_text(firing):
-    text = '%d %d %s' % (firing.line, firing.object, firing.rule)
-    return text if firing.me is None else text + ' from %d' % firing.me
-
-
-def lock_text(lock, is_down):
-    if lock is None:
-        return 'free'
-    text = '%s:%s:%d' % (lock.origin, lock.id, lock.value)
-    return text + ':' + ','.join(str(child) for child in lock.awaited) if is_down else text
-
-
-def object_lines(place, here):
-    line = '%d %s' % (place, here.kind)
-    line += ''.join(' %s=%s' % pair for pair in here.fields.items())
-    line += ' val=%d up=%s down=%s' % (here.val, lock_text(here.up, False), lock_text(here.down, True))
-    if here.kind != 'leaf':
-        line += ' dir=' + ','.join(here.dir[child] for child in here.children)
-    lines = [line]
-    for lane in LANES:
-        if here.lists[lane]:
-            items = ''.join(' %s:%d' % (item.id, item.value) for item in here.lists[lane])
-            lines.append('%s %d%s' % (lane, place, items))
-    return lines
-
-
-def state_lines(state):
-    lines = ['state']
-    for number_of_line, objects in enumerate(state):
-        lines.append('line %d' % number_of_line)
-        for place, here in enumerate(objects):
-            lines += object_lines(place, here)
-    return lines + ['end']
-
-
-def block_lines(blocks):
-    lines = ['blocks %d' % len(blocks)]
-    for t, firings in blocks:
-        lines.append('block %d' % t)
-        lines += [firing_text(firing) for firing in firings]
-    return lines
-
-
-# The whole answer
-
-def replay(protocol, state, history):
-    """Makes the firings in order; answers their transactions and the place of the first that isn't possible."""
-    numbers = []
-    for place, firing in enumerate(history):
-        steps = plan(protocol, state, firing)
-        if steps is None:
-            return numbers, place
-        numbers.append(fire(state, firing, steps, place))
-    return numbers, None
 
 
 class Refused(Exception):
     """A protocol that isn't disciplined, with its refusal."""
-
-
-def check(text):
-    """The status and the lines for the text of a protocol."""
-    protocol = Reader(text).protocol_alone()
-    refuse_undisciplined(protocol)
-    return 0, accepted_lines(protocol)
 
 
 def refuse_undisciplined(protocol):
@@ -380,28 +33,72 @@ def refuse_undisciplined(protocol):
         raise Refused(refusal)
 
 
-def group(text):
-    """The status and the lines for the text of a document with a history."""
-    protocol, nodes, work, history = Reader(text).document()
+def set_up(protocol, nodes, work):
+    """Tries the protocol, the tree and the work of a document, in this order."""
     refuse_undisciplined(protocol)
     check_tree(nodes)
     check_work(work, protocol, nodes)
+
+
+# The jobs: each answers the status and the lines for the text of its document and what the words ask for.
+
+def check(text, asked):
+    protocol = Reader(text).protocol_alone()
+    refuse_undisciplined(protocol)
+    return 0, accepted_lines(protocol)
+
+
+def group(text, asked):
+    protocol, nodes, work, history = Reader(text).document()
+    set_up(protocol, nodes, work)
+    found = grouping.grouped(protocol, nodes, work, history)
+    if found is not None:
+        return 0, grouped_lines(found)
     state = start_state(protocol, nodes, work)
     _numbers, illegal = replay(protocol, state, history)
-    if illegal is not None:
-        return 8, ['illegal %d' % illegal] + state_lines(state)
-    import grouping  # stands on this module
-    blocks = grouping.grouped(protocol, nodes, work, history).blocks
-    return 0, ['quiet' if quiet(state) else 'open'] + block_lines(blocks) + state_lines(state)
+    return 8, ['illegal %d' % illegal] + state_lines(state)
 
 
-JOBS = {'check': check, 'group': group}
+def grouped_lines(found):
+    """The answer to a history that runs."""
+    return ['quiet' if quiet(found.state) else 'open'] + block_lines(found.blocks) + state_lines(found.state)
 
 
-def verdict(job, text):
-    """The status and the lines for a job and the text of its document."""
+def work_asked_for(text, asked):
+    """The protocol, the tree and the work of a document, with the generated requests where a count is given."""
+    protocol, nodes, work = Reader(text).setup()
+    set_up(protocol, nodes, work)
+    return protocol, nodes, work if asked.count is None else walking.made(protocol, nodes, work, asked.count, asked.seed)
+
+
+def walked(text, asked):
+    """The protocol, the tree and the work of a document, the journal of its walk and the state in which it ends."""
+    protocol, nodes, work = work_asked_for(text, asked)
+    return protocol, nodes, work, *walking.walk(protocol, nodes, work, asked.seed)
+
+
+def walk(text, asked):
+    protocol, nodes, work, journal, state = walked(text, asked)
+    word = 'quiet' if quiet(state) else 'stuck'
+    if asked.count is not None:
+        return 0, [word, 'requests %d' % walking.requests_of(work), 'answers %d' % walking.answers_of(state)]
+    blocks = grouping.grouped(protocol, nodes, work, journal).blocks
+    return 0, [word] + journal_lines(journal) + block_lines(blocks) + state_lines(state)
+
+
+def make(text, asked):
+    protocol, nodes, work = work_asked_for(text, asked)
+    lines = ['use ' + protocol.name] if Reader(text).word('protocol', 'use') == 'use' else writing.protocol_lines(protocol)
+    return 0, lines + [writing.tree_line(nodes)] + writing.work_lines(work)
+
+
+JOBS = {'check': check, 'group': group, 'walk': walk, 'make': make}
+
+
+def verdict(asked, text):
+    """The status and the lines for good words and the text of a document."""
     try:
-        return JOBS[job](text)
+        return JOBS[asked.job](text, asked)
     except Fault as fault:
         line, column = place_of(text, fault.start)
         return 5 if fault.job == 'text' else 7, ['%s %d:%d %s' % (fault.job, line, column, fault.cause)]
@@ -409,22 +106,20 @@ def verdict(job, text):
         return 6, [refusal_text(refused.args[0])]
 
 
-def are_good(words_given):
-    return len(words_given) == 1 and words_given[0] in JOBS
-
-
-def answer(words_given, data):
+def answer(given, data):
     """The status and the text for the words after the program's name and the bytes of its input."""
-    if not are_good(words_given):
-        return 1, 'usage: hem check|group\n'
+    asked = words.read(given)
+    if asked is None:
+        return 1, words.USAGE + '\n'
     if len(data) > INPUT_LIMIT:
         return 4, 'too long\n'
-    status, lines = verdict(words_given[0], data.decode('latin-1'))
+    status, lines = verdict(asked, data.decode('latin-1'))
     return status, '\n'.join(lines) + '\n'
 
 
 def main():
-    status, text = answer(sys.argv[1:], sys.stdin.buffer.read() if are_good(sys.argv[1:]) else b'')
+    given = sys.argv[1:]
+    status, text = answer(given, b'' if words.read(given) is None else sys.stdin.buffer.read())
     sys.stdout.write(text)
     sys.stdout.flush()
     sys.exit(status)

@@ -40,3 +40,51 @@ def rule_tokens(rule):
         to, chosen, message, sent = rule.send
         tokens += ['send', to] + (['in'] + chosen if chosen else []) + [message, sent]
     return tokens + ['end']
+
+
+# The canonical texts, as lines
+
+def line_of(tokens):
+    return ' '.join(tokens).replace(' ,', ',')
+
+
+def in_order(protocol, rule):
+    """The rule with the statuses of its sets in order of declaration."""
+    def ordered(chosen):
+        return [status for status in protocol.statuses if status in chosen]
+    guard = [atom if atom[0] == 'asked' else atom[:2] + (ordered(atom[2]),) for atom in rule.guard]
+    send = rule.send
+    if send and send[1]:
+        send = (send[0], ordered(send[1])) + send[2:]
+    return rule._replace(guard=guard, send=send)
+
+
+def protocol_lines(protocol):
+    lines = ['protocol ' + protocol.name, 'status ' + ' '.join(protocol.statuses)]
+    lines += ['message %s %s' % message for message in protocol.messages.items()]
+    for kind, part in protocol.kinds.items():
+        lines += ['kind ' + kind] + ['field %s init %s' % field for field in part.fields.items()]
+        lines += ['dir init ' + part.dir] if part.dir else []
+        lines += [line_of(rule_tokens(in_order(protocol, rule))) for rule in part.rules.values()] + ['end']
+    return lines + ['end']
+
+
+def node_text(nodes, place):
+    below = [node_text(nodes, child) for child, node in enumerate(nodes) if node.parent == place]
+    return nodes[place].kind + ('(%s)' % ' '.join(below) if below else '')
+
+
+def tree_line(nodes):
+    return 'tree ' + node_text(nodes, 0)
+
+
+def work_lines(work):
+    """One line for each leaf and line that have requests, by both numbers."""
+    lists = {}
+    for where, _, line, _, requests in work.entries:
+        lists.setdefault((where, line), []).extend(requests)
+    lines = ['work lines %d self %d' % (work.lines, work.self_count)]
+    for (where, line), requests in sorted(lists.items()):
+        if requests:
+            lines.append('at %d line %d ' % (where, line) + ' '.join('%s %d' % request[:2] for request in requests))
+    return lines + ['end']

@@ -33,6 +33,12 @@ pub struct Request {
     start: usize,
 }
 
+impl Request {
+    pub fn generated(message: MessageId, value: u64) -> Request {
+        Request { message, value, start: 0 }
+    }
+}
+
 pub struct Entry {
     pub object: u32,
     object_start: usize,
@@ -41,15 +47,22 @@ pub struct Entry {
     pub requests: Vec<Request>,
 }
 
+impl Entry {
+    pub fn generated(object: u32, line: u32, requests: Vec<Request>) -> Entry {
+        Entry { object, object_start: 0, line, line_start: 0, requests }
+    }
+}
+
 pub struct Work {
     start: usize,
     pub lines: u32,
     lines_start: usize,
-    self_count: u32,
+    pub self_count: u32,
     self_start: usize,
     pub entries: Vec<Entry>,
 }
 
+#[derive(Clone, Copy)]
 pub struct Firing {
     pub line: u32,
     pub object: u32,
@@ -155,12 +168,13 @@ fn read_history(tokens: &mut Tokens, protocol: &Protocol) -> Result<Vec<Firing>,
     Ok(firings)
 }
 
-pub fn read_document(bytes: &[u8]) -> Result<Document, Fault> {
+/// Reads a document with a history, or one that ends with its work.
+pub fn read_document(bytes: &[u8], has_history: bool) -> Result<Document, Fault> {
     let mut tokens = Tokens::new(bytes);
     let protocol = Protocol::read(&mut tokens)?;
     let nodes = read_tree(&mut tokens)?;
     let work = read_work(&mut tokens, &protocol)?;
-    let history = read_history(&mut tokens, &protocol)?;
+    let history = if has_history { read_history(&mut tokens, &protocol)? } else { Vec::new() };
     let token = tokens.next();
     if token.kind != TokenKind::End {
         return Err(token.expected());
@@ -208,7 +222,19 @@ impl Document {
                 ensure(count <= MOST_REQUESTS, request.start, "requests")?;
             }
         }
-        let starts = count + work.self_count as usize * self.nodes.len() * work.lines as usize;
-        ensure(starts <= MOST_STARTS, work.start, "starts")
+        self.check_starts(count)
+    }
+
+    /// Tries the rule on starts for a work of so many requests.
+    fn check_starts(&self, requests: usize) -> Result<(), SetupFault> {
+        let starts = requests + self.work.self_count as usize * self.nodes.len() * self.work.lines as usize;
+        ensure(starts <= MOST_STARTS, self.work.start, "starts")
+    }
+
+    /// Tries the rules for a lawful work that gets so many requests more.
+    pub fn check_count(&self, count: u32) -> Result<(), SetupFault> {
+        let requests = self.work.entries.iter().map(|entry| entry.requests.len()).sum::<usize>() + count as usize;
+        ensure(requests <= MOST_REQUESTS, self.work.start, "requests")?;
+        self.check_starts(requests)
     }
 }

@@ -1,15 +1,19 @@
-//! The job `group` as a plain Rust program does it, to measure `hem` by: nothing is proved here.
+//! The jobs `group`, `walk` and `make` as a plain Rust program does them, to measure `hem` by: nothing is proved here.
 //!
-//! It answers every document as `hem group` does, with the same text and status. With the word `--times` after `group`
-//! it tells on standard error how long each of its stages took.
+//! It answers every document as `hem` does, with the same text and status. With the last word `--times` it tells on
+//! standard error how long each of its stages took.
 
+mod canonical;
 mod discipline;
 mod document;
+mod draws;
 mod order;
 mod protocol;
 mod report;
 mod system;
 mod text;
+mod walk;
+mod words;
 
 use document::{Document, SetupFault, read_document};
 use order::Transactions;
@@ -17,7 +21,8 @@ use std::io::{Read, Write};
 use std::process::ExitCode;
 use std::time::Instant;
 use system::System;
-use text::{Fault, place_of};
+use text::{Fault, Tokens, place_of};
+use words::{Asked, Job};
 
 const MOST_BYTES: usize = 33_554_432;
 
@@ -40,9 +45,14 @@ impl Watch {
     }
 }
 
+fn setup_fault(bytes: &[u8], fault: SetupFault) -> (u8, String) {
+    let (line, column) = place_of(bytes, fault.start);
+    (7, format!("setup {line}:{column} {}\n", fault.cause))
+}
+
 /// The status and the text for the bytes of a document.
-fn group(bytes: &[u8], watch: &mut Watch) -> (u8, String) {
-    let document = match read_document(bytes) {
+fn of_document(asked: Asked, bytes: &[u8], watch: &mut Watch) -> (u8, String) {
+    let mut document = match read_document(bytes, asked.job == Job::Group) {
         Ok(document) => document,
         Err(Fault { start, cause }) => {
             let (line, column) = place_of(bytes, start);
@@ -52,15 +62,42 @@ fn group(bytes: &[u8], watch: &mut Watch) -> (u8, String) {
     if let Some(refusal) = discipline::first_broken(&document.protocol) {
         return (6, refusal.text(&document.protocol));
     }
-    if let Err(SetupFault { start, cause }) = document.check() {
-        let (line, column) = place_of(bytes, start);
-        return (7, format!("setup {line}:{column} {cause}\n"));
+    if let Err(fault) = document.check() {
+        return setup_fault(bytes, fault);
+    }
+    if let Some(count) = asked.count
+        && let Err(fault) = draws::generate(&mut document, count, asked.seed)
+    {
+        return setup_fault(bytes, fault);
     }
     watch.tell("document");
-    replay(&document, watch)
+    match asked.job {
+        Job::Group => replay(&document, watch),
+        Job::Walk => walk(document, asked, watch),
+        Job::Make => (0, canonical::document(&document, Tokens::new(bytes).next().is("use"))),
+    }
 }
 
-/// The status and the text for a lawful document.
+/// The status and the text of the walk of a lawful document.
+fn walk(mut document: Document, asked: Asked, watch: &mut Watch) -> (u8, String) {
+    let walk = walk::walk(&document, asked.seed);
+    watch.tell("walk");
+    let (system, fired, journal) = (walk.system, walk.fired, walk.journal);
+    if asked.count.is_some() {
+        return (0, report::summary(&document, &system));
+    }
+    document.history = journal;
+    let transactions = Transactions::new(&document, fired);
+    let order = transactions.normal_order();
+    watch.tell("normal order");
+    let printed = transactions.printed_order(&document, &order);
+    watch.tell("printed order");
+    let text = report::walked(&document, &system, &transactions, &printed);
+    watch.tell("text");
+    (0, text)
+}
+
+/// The status and the text of the history of a lawful document.
 fn replay(document: &Document, watch: &mut Watch) -> (u8, String) {
     let mut system = System::new(document);
     let mut fired = Vec::with_capacity(document.history.len());
@@ -82,9 +119,9 @@ fn replay(document: &Document, watch: &mut Watch) -> (u8, String) {
 }
 
 fn answer(words: &[&str], watch: &mut Watch) -> (u8, String) {
-    if words != ["group"] {
-        return (1, "usage: hem check|group\n".to_string());
-    }
+    let Some(asked) = words::read(words) else {
+        return (1, words::USAGE.to_string());
+    };
     let mut bytes = Vec::new();
     let limit = MOST_BYTES as u64 + 1;
     if std::io::stdin().lock().take(limit).read_to_end(&mut bytes).is_err() {
@@ -94,15 +131,15 @@ fn answer(words: &[&str], watch: &mut Watch) -> (u8, String) {
         return (4, "too long\n".to_string());
     }
     watch.tell("reading");
-    group(&bytes, watch)
+    of_document(asked, &bytes, watch)
 }
 
 fn main() -> ExitCode {
     let words: Vec<String> = std::env::args().skip(1).collect();
     let words: Vec<&str> = words.iter().map(String::as_str).collect();
-    let is_wanted = words == ["group", "--times"];
+    let is_wanted = words.last() == Some(&"--times");
     let mut watch = Watch::new(is_wanted);
-    let (status, text) = answer(if is_wanted { &words[..1] } else { &words }, &mut watch);
+    let (status, text) = answer(if is_wanted { &words[..words.len() - 1] } else { &words }, &mut watch);
     let written = std::io::stdout().lock().write_all(text.as_bytes());
     watch.tell("writing");
     match written {

@@ -179,6 +179,7 @@ impl Part {
 }
 
 pub struct Protocol {
+    pub name: String,
     pub statuses: Vec<String>,
     pub messages: Vec<(String, Class)>,
     message_places: HashMap<String, MessageId>,
@@ -235,8 +236,8 @@ impl Protocol {
     }
 
     fn read_written(tokens: &mut Tokens) -> Result<Protocol, Fault> {
-        tokens.new_name(|_| false)?;
         let mut protocol = Protocol {
+            name: string(tokens.new_name(|_| false)?),
             statuses: Vec::new(),
             messages: Vec::new(),
             message_places: HashMap::new(),

@@ -109,6 +109,28 @@ pub fn done(document: &Document, system: &System, transactions: &Transactions, p
     text
 }
 
+fn word_of_end(system: &System) -> &'static str {
+    if system.is_quiet() { "quiet" } else { "stuck" }
+}
+
+/// The text of a walk, whose journal is the document's history.
+pub fn walked(document: &Document, system: &System, transactions: &Transactions, printed: &[u32]) -> String {
+    let mut text = format!("{}\njournal {}\n", word_of_end(system), document.history.len());
+    for firing in &document.history {
+        put_firing(&mut text, document, firing);
+    }
+    put_blocks(&mut text, document, transactions, printed);
+    put_state(&mut text, document, system);
+    text
+}
+
+/// The text of a walk with generated requests.
+pub fn summary(document: &Document, system: &System) -> String {
+    let requests: usize = document.work.entries.iter().map(|entry| entry.requests.len()).sum();
+    let answers: usize = system.lines.iter().flatten().map(|object| object.answers.len()).sum();
+    format!("{}\nrequests {requests}\nanswers {answers}\n", word_of_end(system))
+}
+
 /// The text where the firing at this place isn't possible.
 pub fn illegal(document: &Document, system: &System, place: u32) -> String {
     let mut text = format!("illegal {place}\n");

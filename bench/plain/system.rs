@@ -62,6 +62,14 @@ pub struct Fired {
     pub is_upward: bool,
 }
 
+/// The objects to which a firing has sent a message.
+#[derive(Clone, Copy)]
+pub enum Reached {
+    Nobody,
+    Parent,
+    Children(ChildSet),
+}
+
 pub struct System {
     pub lines: Vec<Vec<Object>>,
 }
@@ -373,8 +381,11 @@ impl System {
 
     /// Makes the firing at a place of the history, where it is possible.
     pub fn step(&mut self, document: &Document, firing: &Firing, place: u32) -> Option<Fired> {
-        let line = self.lines.get_mut(firing.line as usize)?;
+        let line = firing.line as usize;
         let object = firing.object as usize;
+        if line >= self.lines.len() {
+            return None;
+        }
         let node = document.nodes.get(object)?;
         let rule = document.protocol.part(node.kind).rule(firing.rule)?;
         let takes_from_child = matches!(rule.take, Take::Me(_)) && node.kind != Kind::Leaf;
@@ -385,11 +396,35 @@ impl System {
             None if !takes_from_child => None,
             _ => return None,
         };
-        let plan = plan(document, line, object, rule, from, place)?;
+        Some(self.fire(document, line, object, rule, from, place)?.0)
+    }
+
+    /// Whether a rule can fire at an object that is there.
+    pub fn can(&self, document: &Document, line: usize, object: usize, rule: &Rule, from: Option<usize>) -> bool {
+        plan(document, &self.lines[line], object, rule, from, 0).is_some()
+    }
+
+    /// Makes the firing of a rule at an object that is there, where it is possible, and tells whom it reached.
+    pub fn fire(
+        &mut self,
+        document: &Document,
+        line: usize,
+        object: usize,
+        rule: &Rule,
+        from: Option<usize>,
+        place: u32,
+    ) -> Option<(Fired, Reached)> {
+        let plan = plan(document, &self.lines[line], object, rule, from, place)?;
         let is_upward = matches!(rule.lock, Some((Side::Up, _)));
         let fired = Fired { number: plan.view.number, is_upward };
-        fire(line, &node.children, object, rule, from, plan);
-        Some(fired)
+        let reached = match plan.sends {
+            Sends::Nothing | Sends::Answer(_) => Reached::Nobody,
+            Sends::UpRequest(_) | Sends::UpResponse(_) => Reached::Parent,
+            Sends::Child(place, _) => Reached::Children(ChildSet(1 << place)),
+            Sends::Children(targets, _) => Reached::Children(targets),
+        };
+        fire(&mut self.lines[line], &document.nodes[object].children, object, rule, from, plan);
+        Some((fired, reached))
     }
 
     /// Whether only answers are left and no lock is held.

@@ -3,7 +3,7 @@ from collections import namedtuple
 
 import grouping
 import order
-import reference
+import system
 
 # A firing at its place in the history. `asked` is the processor's request that it takes, and `says` what it sends, as
 # texts.
@@ -43,18 +43,18 @@ def arrows_of(nodes, steps, numbers):
 
 def texts_of(protocol, nodes, work, history):
     """For each firing the processor's request that it takes and the message that it sends, as texts or None."""
-    state = reference.start_state(protocol, nodes, work)
+    state = system.start_state(protocol, nodes, work)
     for place, firing in enumerate(history):
-        plan = reference.plan(protocol, state, firing)
+        plan = system.plan(protocol, state, firing)
         here = state[firing.line][firing.object]
         asked = message_text(plan.taken[0][:2]) if any(q is here.lists['req'] for q in plan.queues) else None
         yield asked, message_text(plan.sent) if plan.sent else None
-        reference.fire(state, firing, plan, place)
+        system.fire(state, firing, plan, place)
 
 
 def of_document(protocol, nodes, work, history):
     """The lines of a document that have firings."""
-    state = reference.start_state(protocol, nodes, work)
+    state = system.start_state(protocol, nodes, work)
     steps = grouping.steps_of(protocol, nodes, state, history)
     numbers = order.numbers(steps)
     events = [Event(place, firing.object, firing.rule, numbers[place], asked, says) for place, (firing, (asked, says))

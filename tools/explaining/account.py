@@ -1,19 +1,24 @@
 """Goes through a document as its job does, and hands what it finds to the part that tells it."""
+import walking
 from discipline import first_broken, template
 from reading import Fault, Reader
-from reference import INPUT_LIMIT, check_tree, check_work, replay, start_state
+from reference import INPUT_LIMIT
+from setup import check_tree, check_work
+from system import replay, start_state
 
-from explaining import firings, refusals, setup_faults, states, text_faults
+from explaining import firings, refusals, setup_faults, states, text_faults, walks
 
 
-def of_document(job, document):
-    """The lines that explain the answer to a document."""
+def of_document(asked, document):
+    """The lines that explain the answer to a document, for what the words ask for."""
     if len(document) > INPUT_LIMIT:
         sizes = format(len(document), ','), format(INPUT_LIMIT, ',')
         return ['The text has %s bytes, and may have at most %s.' % sizes]
     text = document.decode('latin-1')
     try:
-        return {'check': of_protocol, 'group': of_history}[job](text)
+        if asked.job == 'check':
+            return of_protocol(text)
+        return of_history(text) if asked.job == 'group' else of_work(text, asked)
     except Fault as fault:
         return text_faults.told(text, fault)
 
@@ -24,8 +29,8 @@ def of_protocol(text):
     return refusals.told(text, protocol, refusal) if refusal else refusals.accepted(protocol, template)
 
 
-def of_history(text):
-    protocol, nodes, work, history = Reader(text).document()
+def set_up(text, protocol, nodes, work):
+    """The lines for a protocol, a tree or a work that is refused, or nothing."""
     refusal = first_broken(protocol)
     if refusal:
         return refusals.told(text, protocol, refusal)
@@ -34,8 +39,35 @@ def of_history(text):
         check_work(work, protocol, nodes)
     except Fault as fault:
         return setup_faults.told(text, fault, protocol, nodes, work)
+    return None
+
+
+def of_history(text):
+    protocol, nodes, work, history = Reader(text).document()
+    refused = set_up(text, protocol, nodes, work)
+    if refused:
+        return refused
     state = start_state(protocol, nodes, work)
     numbers, illegal = replay(protocol, state, history)
     if illegal is not None:
         return firings.told(text, protocol, state, history, illegal)
     return states.told(protocol, state, history, numbers)
+
+
+def of_work(text, asked):
+    """The lines for a walk or for a made document."""
+    protocol, nodes, work = Reader(text).setup()
+    refused = set_up(text, protocol, nodes, work)
+    if refused:
+        return refused
+    if asked.count is not None:
+        try:
+            work = walking.made(protocol, nodes, work, asked.count, asked.seed)
+        except Fault as fault:
+            return setup_faults.of_made(text, fault, nodes, work, asked.count)
+    if asked.job == 'make':
+        return walks.made(work, asked.seed)
+    journal, state = walking.walk(protocol, nodes, work, asked.seed)
+    if asked.count is not None:
+        return walks.summed_up(work, journal, state, asked.seed)
+    return walks.walked(protocol, nodes, work, journal, state, asked.seed)

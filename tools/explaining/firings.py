@@ -1,10 +1,11 @@
 """Tells why a firing isn't possible in a state, and which firings are."""
 from itertools import islice
 
-import reference
+import system
+from printing import firing_text, object_lines
 from protocols import candidates
 from reading import tokens
-from reference import firing_text, need_holds, object_lines
+from system import need_holds
 
 from explaining.phrases import counted, listed, marked
 from explaining.rules import condition_text, rule_text
@@ -115,7 +116,7 @@ def no_child(look):
         source = {'me': "its processor, since it is a leaf's rule", 'parent': 'the parent', 'none': 'nobody',
                   'kids': 'all children that the downlock awaits'}[rule.take[0]]
         return '`%s` takes from %s, so the firing names no child: `from %d` is too much.' % (name, source, firing.me)
-    look.view = reference.View(look.objects, here, rule, firing.me)
+    look.view = system.View(look.objects, here, rule, firing.me)
     return None
 
 
@@ -187,7 +188,7 @@ def held(lock):
 
 def no_condition(look):
     for k, atom in enumerate(look.rule.guard):
-        if not reference.atom_holds(atom, look.view):
+        if not system.atom_holds(atom, look.view):
             return 'Condition %d of `%s` does not hold: `%s`, but %s.' % (
                 k + 1, look.rule.name, condition_text(atom), against(atom, look))
     return None
@@ -220,7 +221,7 @@ def entries(here, among, chosen, more):
 
 def no_change(look):
     """All that the rule sets is there."""
-    if reference.new_values(look.rule, look.view) is not None:
+    if system.new_values(look.rule, look.view) is not None:
         return None
     for place, what in look.rule.sets:
         if place == 'val' and look.view.value(what) is None:
@@ -244,7 +245,7 @@ def no_goal(look):
     if rule.send is None:
         return None
     to, chosen, message, value = rule.send
-    if reference.destination(look.protocol, rule, view, look.objects) is None:
+    if system.destination(look.protocol, rule, view, look.objects) is None:
         return '`%s` sends `%s` to %s.' % (rule.name, message, nobody(look, to, chosen))
     if view.value(value) is None:
         return no_value('sends `%s %s`' % (message, value), value, look)
@@ -269,7 +270,7 @@ def no_lock(look):
     if rule.lock[1] == 'child' and view.requester is None:
         return '`%s` takes a lock for the requester, and there is none.' % rule.name
     sent = (rule.send[2], 0) if rule.send else None
-    if reference.in_hand(look.protocol, rule, view, sent) is None:
+    if system.in_hand(look.protocol, rule, view, sent) is None:
         return '`%s` takes a lock, and there is no request for it to keep.' % rule.name
     return None
 
@@ -280,7 +281,7 @@ def possible(protocol, state):
     """All firings that are possible in a state."""
     return [firing for line, objects in enumerate(state) for where in range(len(objects))
             for firing in candidates(protocol, state, line, where)
-            if reference.plan(protocol, state, firing) is not None]
+            if system.plan(protocol, state, firing) is not None]
 
 
 def possible_lines(protocol, state, near=None):

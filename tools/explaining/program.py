@@ -6,7 +6,7 @@ Answer = namedtuple('Answer', 'status text')
 
 # The statuses that say nothing about the document, and what they say.
 OUTSIDE = {
-    1: 'The program does not know the job, so it read nothing.',
+    1: 'The program does not know these words, so it read nothing.',
     2: 'The program could not read its input to the end.',
     3: 'The program could not write its whole answer; a part of it, from its front, was written.',
     9: 'Memory ran out before the first byte of the answer was written.',
@@ -14,9 +14,9 @@ OUTSIDE = {
 }
 
 
-def answer(path, job, document):
-    """The status and the text that the program gives for a job and a document."""
-    ran = subprocess.run([path, job], input=document, stdout=subprocess.PIPE)
+def answer(path, words, document):
+    """The status and the text that the program gives for words and a document."""
+    ran = subprocess.run([path] + words, input=document, stdout=subprocess.PIPE)
     return Answer(ran.returncode, ran.stdout.decode('latin-1'))
 
 

@@ -1,5 +1,5 @@
 """Tells which rule of trees or works a document breaks."""
-import reference
+import setup
 from reading import tokens
 
 from explaining.phrases import counted, listed, marked, quoted
@@ -13,13 +13,25 @@ def told(text, fault, protocol, nodes, work):
     return lines + RULES[fault.cause](fault, protocol, nodes, work)
 
 
+def of_made(text, fault, nodes, work, count):
+    """The lines for a lawful work that has too much with so many generated requests."""
+    lines = ['The document has a lawful work, but with %s the work breaks the rule `%s`:'
+             % (counted(count, 'generated request'), fault.cause), '']
+    lines += marked(text, fault.start, len('work')) + ['']
+    own = sum(len(entry[4]) for entry in work.entries)
+    if fault.cause == 'requests':
+        return lines + ['A work has at most %s requests in all; these would be %s and %s.'
+                        % (format(setup.REQUEST_LIMIT, ','), format(own, ','), format(count, ','))]
+    return lines + starts_lines(own + count, nodes, work)
+
+
 def part_of(fault):
     return 'tree' if fault.cause in ('objects', 'children', 'levels') else 'work'
 
 
 def objects(fault, protocol, nodes, work):
     return ['A tree has at most %d objects; this one has %d, and this would be number %d, counted from 0.'
-            % (reference.OBJECT_LIMIT, len(nodes), reference.OBJECT_LIMIT)]
+            % (setup.OBJECT_LIMIT, len(nodes), setup.OBJECT_LIMIT)]
 
 
 def node_at(fault, nodes):
@@ -31,20 +43,20 @@ def children(fault, protocol, nodes, work):
     parent = nodes[place].parent
     count = sum(node.parent == parent for node in nodes)
     return ['An object has at most %d children; object %d, the %s above this %s, has %d.'
-            % (reference.CHILD_LIMIT, parent, nodes[parent].kind, nodes[place].kind, count)]
+            % (setup.CHILD_LIMIT, parent, nodes[parent].kind, nodes[place].kind, count)]
 
 
 def levels(fault, protocol, nodes, work):
     return ['A tree has at most %d levels, the root being level 1; this %s is at level %d.'
-            % (reference.LEVEL_LIMIT, nodes[node_at(fault, nodes)].kind, nodes[node_at(fault, nodes)].level)]
+            % (setup.LEVEL_LIMIT, nodes[node_at(fault, nodes)].kind, nodes[node_at(fault, nodes)].level)]
 
 
 def lines(fault, protocol, nodes, work):
-    return ['There are 1 to %d lines; this work has %d.' % (reference.LINE_LIMIT, work.lines)]
+    return ['There are 1 to %d lines; this work has %d.' % (setup.LINE_LIMIT, work.lines)]
 
 
 def self_firings(fault, protocol, nodes, work):
-    return ['`self` is at most %s; here it is %d.' % (format(reference.SELF_LIMIT, ','), work.self_count)]
+    return ['`self` is at most %s; here it is %d.' % (format(setup.SELF_LIMIT, ','), work.self_count)]
 
 
 def entry_object(fault, protocol, nodes, work):
@@ -73,14 +85,17 @@ def request(fault, protocol, nodes, work):
 def requests(fault, protocol, nodes, work):
     count = sum(len(entry[4]) for entry in work.entries)
     return ['A work has at most %s requests in all; this one has %s.'
-            % (format(reference.REQUEST_LIMIT, ','), format(count, ','))]
+            % (format(setup.REQUEST_LIMIT, ','), format(count, ','))]
 
 
 def starts(fault, protocol, nodes, work):
-    count = sum(len(entry[4]) for entry in work.entries)
+    return starts_lines(sum(len(entry[4]) for entry in work.entries), nodes, work)
+
+
+def starts_lines(count, nodes, work):
     own = work.self_count * len(nodes) * work.lines
     return ['A work may start at most %s transactions: its requests, and `self` times objects times lines.'
-            % format(reference.START_LIMIT, ','),
+            % format(setup.START_LIMIT, ','),
             'Here that is %d + %d x %d x %d = %s.'
             % (count, work.self_count, len(nodes), work.lines, format(count + own, ','))]
 

@@ -1,6 +1,6 @@
 """A plain account of a history that runs: its transactions, and the state at its end."""
-import reference
-from reference import LANES
+import system
+from system import LANES
 
 from explaining.firings import held, possible_lines
 from explaining.phrases import counted, listed
@@ -14,11 +14,17 @@ def told(protocol, state, history, numbers):
     lines = ['The history runs: %s, of %s.'
              % (counted(len(history), 'firing'), counted(len(set(numbers)), 'transaction'))]
     lines += [regrouped(numbers)] + ending(state) + ['']
+    return lines + object_accounts(state) + [''] + possible_lines(protocol, state)
+
+
+def object_accounts(state):
+    """What each object has at the end, line by line."""
+    lines = []
     for number, objects in enumerate(state):
         lines.append('Line %d at the end:' % number)
         for place, here in enumerate(objects):
             lines += object_account(place, here)
-    return lines + [''] + possible_lines(protocol, state)
+    return lines
 
 
 def regrouped(numbers):
@@ -29,9 +35,9 @@ def regrouped(numbers):
     return 'Transactions interleave; the answer lists them as blocks, one whole after another, which lead to the same state.'
 
 
-def ending(state):
+def ending(state, word='open', left='Still under way'):
     """Whether the state is quiet, and if not, what is still under way."""
-    if reference.quiet(state):
+    if system.quiet(state):
         return ['The end is `quiet`: no message waits but answers, and no lock is held.']
     places = [here for objects in state for here in objects]
     waiting = sum(len(here.lists[lane]) for here in places for lane in LANES if lane not in ('req', 'ans'))
@@ -40,7 +46,7 @@ def ending(state):
     parts = [counted(asked, 'request') + ' of a processor not taken'] * bool(asked)
     parts += [counted(waiting, 'message') + ' between objects'] * bool(waiting)
     parts += [counted(locks, 'lock') + ' held'] * bool(locks)
-    return ['The end is `open`. Still under way: %s.' % listed(parts)]
+    return ['The end is `%s`. %s: %s.' % (word, left, listed(parts))]
 
 
 def object_account(place, here):
