@@ -6,6 +6,7 @@ use Rattle.std.proofs.lemmas.Bool.Decides.{eqb_tells}
 use Rattle.hem_base.specs.declared.ids.ObjectId.{ObjectId}
 use Rattle.hem_base.specs.declared.ids.Firing.{Firing}
 use Rattle.hem_syntax.specs.Protocol.{Protocol}
+use Rattle.hem_fire.specs.declared.outs.To.{To}
 use Rattle.hem_rows.proofs.Choices.{if_some}
 use Rattle.hem_system.proofs.Own.{came}
 use Rattle.hem_system.proofs.Takers.{parent_is}
@@ -16,7 +17,7 @@ use Rattle.hem_system.specs.State.{State, Fires, line_after}
 use Rattle.hem_walk.specs.Walk.{position, ready_at, IsThere}
 use Rattle.hem_walk.specs.Marks.{is_in}
 use Rattle.hem_walk.specs.Near.{is_near, IsMarkedNear, IsMarked}
-use Rattle.hem_walk.specs.Working.{NoneReady}
+use Rattle.hem_walk.specs.Working.{NoneReady, sends_to}
 use Rattle.hem_walk.proofs.Apart.{ready_same}
 use Rattle.hem_walk.proofs.Positions.{same_place}
 
@@ -48,17 +49,17 @@ marked_less p tree k h s marks next at l o it members size line object none =
     }
 
 -- after a firing the set has each position with a ready firing once those that it can change are put in
-pub marked_next : (p : Protocol) (tree : Tree) (k : ℕ) (h : List Firing) (old new : State) (f : Firing) (marks next : List ℕ) → IsMarked p tree k h old marks → Fires p tree old f new → IsMarkedNear tree new f marks next → IsMarked p tree k (h ++ f ∷ []) new next
-marked_next p tree k h old new f marks next it fires near =
+pub marked_next : (p : Protocol) (tree : Tree) (k : ℕ) (h : List Firing) (old new : State) (f : Firing) (t : To) (marks next : List ℕ) → IsMarked p tree k h old marks → Fires p tree old f new → sends_to p tree old f ≡ Some t → IsMarkedNear tree new f t marks next → IsMarked p tree k (h ++ f ∷ []) new next
+marked_next p tree k h old new f t marks next it fires sent near =
     let step = came fires in
     let lines : length new ≡ length old = ap length step.after ∙ length-set old f.line.0 (line_after tree f step.effect step.line) in
     record {
       size = (let was = it.size in let size = near.size in let same = ap (λ n. n * length tree / 64) lines in omega (arith, was, size, same));
       others = λ l o there out.
           let there_before : IsThere tree old l o = record { line = (let inside = there.line in omega (arith, inside, lines)); object = there.object } in
-          let far = not_near (is_near tree f l o) (is_in next (position tree l o)) (near.near l o there) out in
+          let far = not_near (is_near tree f t l o) (is_in next (position tree l o)) (near.near l o there) out in
           let before = not_in (is_in marks (position tree l o)) (is_in next (position tree l o)) (near.kept (position tree l o)) out in
-          ready_same p tree k h old new f l o fires far ∙ it.others l o there_before before;
+          ready_same p tree k h old new f t l o fires sent far ∙ it.others l o there_before before;
     }
   where
     not_near : (a b : Bool) → (a ≡ true → b ≡ true) → b ≡ false → a ≡ false

@@ -2,18 +2,32 @@
 use Rattle.std.specs.Prelude.{ℕ, ◌≡◌, ◌==◌, ◌<◌, ◌/◌, Bool, true, false, ◌&&◌, ◌||◌, List, length, None}
 use Rattle.hem_base.specs.declared.ids.Firing.{Firing}
 use Rattle.hem_syntax.specs.Protocol.{Protocol}
+use Rattle.hem_fire.specs.declared.outs.To.{To}
+use Rattle.hem_fire.specs.declared.outs.To.TheVariants as to
 use Rattle.hem_tree.specs.Tree.{Tree, is_child}
 use Rattle.hem_system.specs.State.{State}
 use Rattle.hem_walk.specs.Walk.{positions, position, ready_at, IsThere}
 use Rattle.hem_walk.specs.Marks.{is_in}
 
--- an object on a line is that of the firing, its parent, or one of its children
-abbrev pub is_near : Tree → Firing → ℕ → ℕ → Bool
-is_near tree f l o = l == f.line.0 && (o == f.object.0 || is_child tree f.object.0 o || is_child tree o f.object.0)
+-- a firing sends to the parent
+abbrev pub is_up : To → Bool
+is_up to.UpRequest = true
+is_up to.UpResponse = true
+is_up _ = false
+
+-- a firing sends to children
+abbrev pub is_down : To → Bool
+is_down (to.Kid c) = true
+is_down (to.Kids set) = true
+is_down _ = false
+
+-- an object on a line is that of the firing, or its parent where it sends up, or one of its children where it sends down
+abbrev pub is_near : Tree → Firing → To → ℕ → ℕ → Bool
+is_near tree f t l o = l == f.line.0 && (o == f.object.0 || is_up t && is_child tree f.object.0 o || is_down t && is_child tree o f.object.0)
 
 -- these positions are in the set, and all that were in it before
-pub record IsMarkedNear (tree : Tree) (s : State) (f : Firing) (old new : List ℕ) : Type 0 where
-  pub near : (l o : ℕ) → IsThere tree s l o → is_near tree f l o ≡ true → is_in new (position tree l o) ≡ true
+pub record IsMarkedNear (tree : Tree) (s : State) (f : Firing) (t : To) (old new : List ℕ) : Type 0 where
+  pub near : (l o : ℕ) → IsThere tree s l o → is_near tree f t l o ≡ true → is_in new (position tree l o) ≡ true
   pub kept : (n : ℕ) → is_in old n ≡ true → is_in new n ≡ true
   pub size : length new ≡ length old
 

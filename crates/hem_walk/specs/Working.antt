@@ -1,10 +1,12 @@
 -- A walk on its way.
-use Rattle.std.specs.Prelude.{ℕ, ◌≡◌, ◌<◌, ◌≤◌, ◌%◌, ◌^◌, Bool, true, false, List, [], ◌∷◌, ◌++◌, length, None, Some, slice_index}
+use Rattle.std.specs.Prelude.{ℕ, ◌≡◌, ◌<◌, ◌≤◌, ◌%◌, ◌^◌, Bool, true, false, List, [], ◌∷◌, ◌++◌, length, None, Some, Option, option_map, slice_index}
 use Rattle.hem_base.specs.declared.ids.Firing.{Firing}
 use Rattle.hem_syntax.specs.Protocol.{Protocol}
 use Rattle.hem_tree.specs.Tree.{Tree}
 use Rattle.hem_work.specs.Work.{Work}
 use Rattle.hem_system.specs.State.{State, Fires, Runs, start}
+use Rattle.hem_fire.specs.declared.outs.To.{To}
+use Rattle.hem_system.specs.Events.{event_in}
 use Rattle.hem_system.specs.Ended.{self_firings}
 use Rattle.hem_bound.specs.Starts.{IsWithin}
 use Rattle.hem_work.specs.Generator.{next_number, number_after, draw_of}
@@ -34,6 +36,10 @@ pub record IsFirst (p : Protocol) (tree : Tree) (k : ℕ) (h : List Firing) (s :
   pub within : position tree f.line.0 f.object.0 < end
   pub ready : ready_at p tree k h s f.line.0 f.object.0 ≡ Some f
   pub before : NoneReady p tree k h s from (position tree f.line.0 f.object.0)
+
+-- where a firing in a state sends its message, where it is possible
+abbrev pub sends_to : Protocol → Tree → State → Firing → Option To
+sends_to p tree s f = option_map (λ event. event.outs.to) (event_in p tree s f)
 
 -- a firing was made
 pub record IsMade (p : Protocol) (tree : Tree) (f : Firing) (old new : Walking) : Type 0 where

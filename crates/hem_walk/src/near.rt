@@ -9,6 +9,7 @@ ghost use Rattle.hem_walk.specs.Near.{IsMarkedNear};
 use crate::marks::Marks;
 use crate::working::{Walking, position};
 use hem_base::{Firing, LineId, ObjectId};
+use hem_fire::To;
 use hem_tree::Tree;
 
 impl Walking {
@@ -52,14 +53,18 @@ impl Walking {
         }
     }
 
-    /// Puts in the positions that a firing can change: on its line those of its object, of the parent and of the children.
-    pub(crate) fn mark_near(&self, tree: &Tree, marks: &mut Marks, firing: Firing)
+    /// Puts in the positions that a firing can change: on its line that of its object, that of the parent where it sends up,
+    /// and those of the children where it sends down.
+    pub(crate) fn mark_near(&self, tree: &Tree, marks: &mut Marks, firing: Firing, to: To)
         requires there { IsThere tree.now self.now.system firing.line.0 firing.object.0 }
         requires size { positions tree.now self.now.system / 64 < length marks.old }
-        ensures { IsMarkedNear tree.now self.now.system firing marks.old marks.new }
+        ensures { IsMarkedNear tree.now self.now.system firing to marks.old marks.new }
     {
         self.mark(tree, marks, firing.line, firing.object);
-        self.mark_above(tree, marks, firing);
-        self.mark_below(tree, marks, firing);
+        match to {
+            To::UpRequest | To::UpResponse => self.mark_above(tree, marks, firing),
+            To::Kid(_) | To::Kids(_) => self.mark_below(tree, marks, firing),
+            To::Nobody | To::Answer => {}
+        }
     }
 }

@@ -1,14 +1,15 @@
 //! The turns of a walk.
 
-ghost use Rattle.std.specs.Prelude.{◌≡◌, ◌<◌, ◌+◌, ◌^◌, ◌++◌, ◌∷◌, [], true, IfOk, OnOk};
+ghost use Rattle.std.specs.Prelude.{◌≡◌, ◌<◌, ◌+◌, ◌^◌, ◌++◌, ◌∷◌, [], true, Some, IfOk, OnOk};
 ghost use Rattle.hem_system.specs.Ended.{is_self, self_firings};
 ghost use Rattle.hem_walk.specs.Near.{IsMarked};
 ghost use Rattle.hem_walk.specs.Walk.{IsThere};
-ghost use Rattle.hem_walk.specs.Working.{IsCounted, IsSoFar, IsMade, IsAfterTurn};
+ghost use Rattle.hem_walk.specs.Working.{IsCounted, IsSoFar, IsMade, IsAfterTurn, sends_to};
 
 use crate::marks::Marks;
 use crate::working::{Walking, is_self, position};
 use hem_base::{Firing, List, OutOfMemory};
+use hem_fire::To;
 use hem_syntax::Protocol;
 use hem_system::System;
 use hem_tree::Tree;
@@ -51,17 +52,18 @@ impl Walking {
         }
     }
 
-    /// Makes a firing that is possible.
-    fn make(&mut self, p: &Protocol, tree: &Tree, firing: Firing) -> Result<(), OutOfMemory>
+    /// Makes a firing that is possible. Tells where it sends its message.
+    fn make(&mut self, p: &Protocol, tree: &Tree, firing: Firing) -> Result<To, OutOfMemory>
         requires counted { IsCounted p.now tree.now self.old.journal self.old.system self.old.selfs }
         requires there { IsThere tree.now self.old.system firing.line.0 firing.object.0 }
         requires few { is_self p.now tree.now firing ≡ true → self_firings p.now tree.now self.old.journal firing.line.0 firing.object.0 + 1 < 2 ^ 32 }
-        ensures { OnOk result (IsMade p.now tree.now firing self.old self.new) }
+        ensures made { OnOk result (IsMade p.now tree.now firing self.old self.new) }
+        ensures sent { IfOk result (λ to. sends_to p.now tree.now self.old.system firing ≡ Some to) }
     {
         self.count(p, tree, firing);
         self.journal.push(firing)?;
         match self.system.step(p, tree, firing) {
-            Ok(_event) => Ok(()),
+            Ok(event) => Ok(event.outs.to),
             // The firing is possible, so memory ran out.
             Err(_fault) => Err(OutOfMemory),
         }
@@ -90,8 +92,8 @@ impl Walking {
         let Some(firing) = self.choose(p, tree, work, marks, from) else {
             return Ok(false);
         };
-        self.make(p, tree, firing)?;
-        self.mark_near(tree, marks, firing);
+        let to = self.make(p, tree, firing)?;
+        self.mark_near(tree, marks, firing, to);
         Ok(true)
     }
 }

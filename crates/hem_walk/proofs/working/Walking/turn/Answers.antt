@@ -11,6 +11,6 @@ make-requires-clause-few c = λ self.
 
 pub returns-clause-marked : goal.returns-clause-marked
 returns-clause-marked c =
-    let made = c.in_ok-make.ensures in
+    let made = c.in_ok-to.ensures.made in
     subst (λ h. IsMarked c.args.p.now c.args.tree.now c.args.work.now.self_count h c.make.new.self.system c.mark_near.new.marks) (sym made.journal)
-    (marked_next c.args.p.now c.args.tree.now c.args.work.now.self_count _ _ c.make.new.self.system c.in-Some.firing c.choose.new.marks c.mark_near.new.marks c.choose.ensures.marked made.fires c.mark_near.ensures)
+    (marked_next c.args.p.now c.args.tree.now c.args.work.now.self_count _ _ c.make.new.self.system c.in-Some.firing c.in_ok-to.to c.choose.new.marks c.mark_near.new.marks c.choose.ensures.marked made.fires c.in_ok-to.ensures.sent c.mark_near.ensures)
