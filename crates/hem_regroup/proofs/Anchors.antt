@@ -1,10 +1,10 @@
 -- The highest objects, found from the last firing on.
-use Rattle.std.proofs.Common.{◌≡◌, ◌≢◌, sym, ap, ◌∙◌, ℕ, zero, suc, ◌+◌, ◌-◌, ◌<◌, false, cond, List, [], ◌∷◌, length, drop, get_or, set, Option, None, Some, add-one, drop-cons, arith, ⊎_elim}
+use Rattle.std.proofs.Common.{◌≡◌, ◌≢◌, refl, sym, ap, ◌∙◌, ℕ, zero, suc, ◌+◌, ◌-◌, ◌<◌, false, cond, List, [], ◌∷◌, length, map, drop, get_or, set, Option, None, Some, add-one, drop-cons, arith, ⊎_elim}
 use Rattle.std.proofs.lemmas.Bool.{eq-eqb, ne_eqb, cases_eq}
 use Rattle.std.proofs.lemmas.List.{get_or-set_other, get_or-set_same}
 use Rattle.hem_regroup.specs.declared.numbered.Numbered.{Numbered}
 use Rattle.hem_regroup.specs.declared.tops.Top.{Top}
-use Rattle.hem_regroup.specs.Normal.{top_at, upper, top_from, AreBelow}
+use Rattle.hem_regroup.specs.Normal.{top_at, upper, top_from, place_of, AreBelow}
 
 -- a numbered firing of none
 abbrev pub no_numbered : Numbered
@@ -42,3 +42,13 @@ tops_more all back tops new within were size below written n inside =
     let last : j ≡ length all - (back + 1) = omega arith in
     tops_at all j tops new (omega arith) (λ n inside. were n inside ∙ ap (λ k. top_from k (drop k all) n) (sym next)) size below written n inside
     ∙ ap (λ k. top_from k (drop k all) n) last
+
+-- the place of the top of one number
+pub places-at : (tops : List (Option Top)) (n : ℕ) → get_or (map place_of tops) n 0 ≡ place_of (get_or tops n None)
+places-at [] n = refl
+places-at (top ∷ tops) zero = refl
+places-at (top ∷ tops) (suc n) = places-at tops n
+
+pub places_size : (tops : List (Option Top)) → length (map place_of tops) ≡ length tops
+places_size [] = refl
+places_size (top ∷ tops) = ap suc (places_size tops)

@@ -1,12 +1,12 @@
 //! The normal order of a history's firings.
 
-ghost use Rattle.std.specs.Prelude.{cond, ◌∷◌, ◌≡◌, ◌≢◌, ℕ, ◌+◌, ◌<◌, nat_lt, ◌&&◌, [], ◌++◌, length, None, Some, slice_get, slice_index_or, IfOk, OnOk};
-ghost use Rattle.hem_regroup.specs.Normal.{member_at, shown, kept, top_from, normal_members, AreBelow, IsPlacing};
+ghost use Rattle.std.specs.Prelude.{cond, ◌∷◌, ◌≡◌, ◌≢◌, ℕ, ◌+◌, ◌<◌, nat_lt, ◌&&◌, [], ◌++◌, length, Some, slice_get, slice_index_or, IfOk, OnOk};
+ghost use Rattle.hem_regroup.specs.Normal.{member_at, shown, kept, anchor, normal_members, AreBelow, IsPlacing};
 
 use crate::lists::{append, empty_lists, take_out};
 use crate::member::Member;
 use crate::numbered::Numbered;
-use crate::tops::{Top, all_tops, place_of};
+use crate::tops::all_anchors;
 use hem_base::{List, OutOfMemory};
 use std::alloc::Global;
 
@@ -59,20 +59,19 @@ fn place_next(
     alloc: Global,
     members: &mut Vec<Member>,
     held: &mut List<List<Member>>,
-    tops: &[Option<Top>],
+    anchors: &[usize],
     all: &[Numbered],
     place: usize,
 ) -> Result<(), OutOfMemory>
     requires within { place < length all.now }
     requires below { AreBelow (length all.now) all.now }
-    requires size { length tops.now ≡ length all.now }
-    requires tops { (n : ℕ) → n < length all.now → slice_index_or tops.now n None ≡ top_from 0 all.now n }
+    requires size { length anchors.now ≡ length all.now }
+    requires anchors { (n : ℕ) → n < length all.now → slice_index_or anchors.now n 0 ≡ anchor all.now n }
     requires placing { IsPlacing all.now place members.old.items held.old }
     ensures { OnOk result (IsPlacing all.now (place + 1) members.new.items held.new) }
 {
     let x = all[place];
-    let anchor = place_of(tops[x.number]);
-    place_one(alloc, members, held, anchor, place, x)
+    place_one(alloc, members, held, anchors[x.number], place, x)
 }
 
 /// The firings in their normal order: each upward request that stands before its transaction's anchor is moved to just
@@ -81,11 +80,18 @@ pub(crate) fn normal_order(alloc: Global, all: &[Numbered]) -> Result<Vec<Member
     requires { AreBelow (length all.now) all.now }
     ensures { IfOk result (λ members. members.items ≡ normal_members all.now) }
 {
-    let tops = all_tops(alloc, all)?;
+    let anchors = all_anchors(alloc, all)?;
     let mut held = empty_lists(alloc, all.len())?;
     let mut members = Vec::with_capacity(alloc, all.len())?;
     for place in 0..all.len() {
-        place_next(alloc, &mut members, &mut held, tops.as_slice(), all, place)?;
+        place_next(
+            alloc,
+            &mut members,
+            &mut held,
+            anchors.as_slice(),
+            all,
+            place,
+        )?;
     }
     Ok(members)
 }

@@ -1,7 +1,7 @@
-//! The highest object of each transaction.
+//! The highest object of each transaction, and its anchor there.
 
-ghost use Rattle.std.specs.Prelude.{◌≡◌, ℕ, ◌<◌, length, None, Some, slice_index_or, slice_set, IfOk};
-ghost use Rattle.hem_regroup.specs.Normal.{is_above, upper, top_at, top_from, place_of, AreBelow};
+ghost use Rattle.std.specs.Prelude.{◌≡◌, ℕ, ◌<◌, length, map, None, Some, slice_index_or, slice_set, IfOk};
+ghost use Rattle.hem_regroup.specs.Normal.{is_above, upper, top_at, top_from, place_of, anchor, AreBelow};
 
 use crate::numbered::Numbered;
 use hem_base::OutOfMemory;
@@ -9,7 +9,7 @@ use std::alloc::Global;
 
 /// Where the first of a transaction's firings at its highest object stands.
 #[derive(Clone, Copy, Debug, PartialEq, Eq)]
-pub(crate) struct Top {
+struct Top {
     level: u32,
     object: u32,
     place: usize,
@@ -44,7 +44,7 @@ fn top_at(place: usize, x: Numbered) -> Top
 }
 
 /// The place of a top, 0 without one.
-pub(crate) fn place_of(top: Option<Top>) -> usize
+fn place_of(top: Option<Top>) -> usize
     ensures { result ≡ place_of top }
 {
     match top {
@@ -62,7 +62,7 @@ fn raise(tops: &mut Vec<Option<Top>>, place: usize, x: Numbered)
 }
 
 /// Of each transaction where the first of its firings at its highest object stands.
-pub(crate) fn all_tops(alloc: Global, all: &[Numbered]) -> Result<Vec<Option<Top>>, OutOfMemory>
+fn all_tops(alloc: Global, all: &[Numbered]) -> Result<Vec<Option<Top>>, OutOfMemory>
     requires { AreBelow (length all.now) all.now }
     ensures size { IfOk result (λ tops. length tops.items ≡ length all.now) }
     ensures tops { IfOk result (λ tops. (n : ℕ) → n < length all.now → slice_index_or tops.items n None ≡ top_from 0 all.now n) }
@@ -74,4 +74,26 @@ pub(crate) fn all_tops(alloc: Global, all: &[Numbered]) -> Result<Vec<Option<Top
         raise(&mut tops, place, all[place]);
     }
     Ok(tops)
+}
+
+/// The places of tops.
+fn places(alloc: Global, tops: &[Option<Top>]) -> Result<Vec<usize>, OutOfMemory>
+    ensures { IfOk result (λ places. places.items ≡ map place_of tops.now) }
+{
+    let mut places = Vec::with_capacity(alloc, tops.len())?;
+    for top in tops {
+        places.push(place_of(*top))?;
+    }
+    Ok(places)
+}
+
+/// The place of each transaction's anchor, by the transaction's number. The tops are let go before other tables are
+/// made, which then stand in their room.
+pub(crate) fn all_anchors(alloc: Global, all: &[Numbered]) -> Result<Vec<usize>, OutOfMemory>
+    requires { AreBelow (length all.now) all.now }
+    ensures size { IfOk result (λ anchors. length anchors.items ≡ length all.now) }
+    ensures anchors { IfOk result (λ anchors. (n : ℕ) → n < length all.now → slice_index_or anchors.items n 0 ≡ anchor all.now n) }
+{
+    let tops = all_tops(alloc, all)?;
+    places(alloc, tops.as_slice())
 }
