@@ -1,0 +1,5 @@
+mod LineFeeds
+mod ProtocolBack
+mod DocumentBack
+mod Numbers
+mod MadeBack
