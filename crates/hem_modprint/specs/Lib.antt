@@ -1,0 +1,2 @@
+pub mod ModulesText
+pub mod ReadsBack

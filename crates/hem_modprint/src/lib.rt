@@ -1,0 +1,12 @@
+//! Modules as texts.
+#![tactic(auto)]
+
+mod actions;
+mod law;
+mod modules;
+mod names;
+mod rules;
+mod tests;
+
+pub use law::reads_back;
+pub use modules::modules_text;
