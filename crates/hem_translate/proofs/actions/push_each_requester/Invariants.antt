@@ -1,0 +1,10 @@
+use Rattle.std.proofs.Common.{◌≡◌, ◌++◌, map, drop}
+use Rattle.std.specs.List.{flat_map}
+use Rattle.hem_emit.specs.Actions.{set_me}
+use Rattle.hem_translate.specs.ByPlace.{action_at}
+use Rattle.hem_translate.specs.Askers.{asker_is}
+use Rattle.hem_translate.proofs.actions.push_each_requester.Given as goal
+
+-- the actions so far and those of the sets that are left are all
+abbrev pub invariant-loop-assign : goal.invariant-loop-assign
+invariant-loop-assign l = l.actions ++ flat_map (λ s. map (action_at l.l) (set_me l.site (asker_is l.who) s)) (drop l.assign-index l.sets) ≡ l.fn.actions ++ flat_map (λ s. map (action_at l.l) (set_me l.site (asker_is l.who) s)) l.sets

@@ -1,0 +1,10 @@
+use Rattle.std.proofs.Common.{◌≡◌, ◌++◌, ◌∷◌, [], map, drop}
+use Rattle.hem_module.specs.Module.{deq}
+use Rattle.hem_emit.specs.Clauses.{responses_of}
+use Rattle.hem_emit.specs.Actions.{where_holds, is_awaited}
+use Rattle.hem_translate.specs.ByPlace.{action_at}
+use Rattle.hem_translate.proofs.actions.push_lost_responses.Given as goal
+
+-- the actions so far and those of the children that are left are all
+abbrev pub invariant-loop-kid : goal.invariant-loop-kid
+invariant-loop-kid l = l.actions ++ map (action_at l.l) (map (λ k. where_holds (is_awaited k ∷ []) (deq (responses_of k))) (drop l.kid-index l.kids)) ≡ l.fn.actions ++ map (action_at l.l) (map (λ k. where_holds (is_awaited k ∷ []) (deq (responses_of k))) l.kids)

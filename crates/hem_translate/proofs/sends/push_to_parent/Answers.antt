@@ -1,0 +1,10 @@
+use Rattle.std.proofs.Common.{◌≡◌, ◌++◌, [], ap, ◌∙◌, subst, OnOk, map}
+use Rattle.hem_emit.specs.Actions.{amounts_of, parent_lane}
+use Rattle.hem_translate.specs.ByPlace.{queue_at}
+use Rattle.hem_translate.specs.Amounts.{acted, counted_at}
+use Rattle.hem_translate.specs.declared.amounts.Deed.TheVariants.{Send}
+use Rattle.hem_translate.proofs.Spreads.{send_valued}
+use Rattle.hem_translate.proofs.sends.push_to_parent.Goals as goal
+
+pub returns : goal.returns
+returns c = subst (λ xs. OnOk c.push_counted.result (c.push_counted.new.actions ≡ c.args.actions.now ++ xs)) (ap (λ q. map (acted [] (Send q c.args.id)) (map (counted_at c.args.l.now) (amounts_of c.args.site.now c.args.me c.args.take c.args.value))) (c.queue-lane.ensures ∙ ap (queue_at c.args.l.now) c.parent_list.ensures) ∙ send_valued c.args.l.now [] (parent_lane c.args.p.now c.args.site.now c.args.id) c.args.id (amounts_of c.args.site.now c.args.me c.args.take c.args.value)) c.push_counted.ensures
