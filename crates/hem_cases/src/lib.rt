@@ -26,4 +26,6 @@ mod streams;
 #[cfg(test)]
 mod tokens;
 #[cfg(test)]
+mod transactions;
+#[cfg(test)]
 mod trees;
