@@ -143,7 +143,9 @@ pub(crate) struct Enabled<'p> {
     pub(crate) took: Heads,
 }
 
-/// The rule, the plan and the heads of a firing, where it is possible on a line.
+/// The rule, the plan and the heads of a firing, where it is possible on a line. It is put in place, so that what it
+/// answers isn't copied.
+#[inline(always)]
 pub(crate) fn enable<'p>(
     cells: &[Cell],
     p: &'p Protocol,
