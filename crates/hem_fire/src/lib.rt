@@ -10,5 +10,6 @@ mod sends;
 mod view;
 
 pub use heads::{Heads, awaited_of};
+pub use locks::needs_hold;
 pub use outs::{Outs, To};
 pub use plan::{Plan, can};

@@ -1,6 +1,6 @@
 //! What a rule asks of a lock, and the lock that a firing takes.
 
-ghost use Rattle.std.specs.Prelude.{◌≡◌};
+ghost use Rattle.std.specs.Prelude.{◌≡◌, ◌&&◌};
 ghost use Rattle.hem_syntax.specs.declared.rule.SendTo.{SendTo};
 ghost use Rattle.hem_object.specs.Local.{Local};
 ghost use Rattle.hem_fire.specs.Sends.{message_of};
@@ -9,11 +9,11 @@ ghost use Rattle.hem_fire.specs.Locks.{need_holds, if_request, request_in_hand, 
 use crate::heads::Heads;
 use crate::lookup::is_request_id;
 use hem_base::{KidSet, Message};
-use hem_object::{By, Lock, View};
-use hem_syntax::{Hold, Origin, Protocol, Side, Take};
+use hem_object::{By, Local, Lock, View};
+use hem_syntax::{Hold, Origin, Protocol, Rule, Side, Take};
 
 /// Whether a lock is as the rule needs it.
-pub(crate) fn need_holds(need: Hold, lock: Option<Lock>) -> bool
+fn need_holds(need: Hold, lock: Option<Lock>) -> bool
     ensures { result ≡ need_holds need lock }
 {
     match (need, lock) {
@@ -24,6 +24,13 @@ pub(crate) fn need_holds(need: Hold, lock: Option<Lock>) -> bool
         (Hold::Own, Some(lock)) => matches!(lock.by, By::Own),
         _ => false,
     }
+}
+
+/// Whether both locks are as the rule needs them. Where they aren't, the rule can't fire, whatever messages are there.
+pub fn needs_hold(rule: &Rule, local: &Local) -> bool
+    ensures { result ≡ (need_holds rule.now.need.up local.now.up && need_holds rule.now.need.down local.now.down) }
+{
+    need_holds(rule.need.up, local.up) && need_holds(rule.need.down, local.down)
 }
 
 /// The message, where it is there and is a request.

@@ -15,7 +15,7 @@ ghost use Rattle.hem_fire.specs.Sends.{message_of};
 ghost use Rattle.hem_fire.specs.OneFire.{me_fits, can_begin, can_fire, outs_of};
 
 use crate::heads::Heads;
-use crate::locks::{lock_names, lock_taken, need_holds, request_in_hand};
+use crate::locks::{lock_names, lock_taken, needs_hold, request_in_hand};
 use crate::outs::Outs;
 use crate::sends::{goes_to, message_of, send_names};
 use crate::view::view_of;
@@ -40,8 +40,7 @@ fn can_begin(kind: Kind, rule: &Rule, me: Option<u8>, local: &Local, heads: &Hea
 {
     me_fits(kind, rule.take, me, local.dir.len())
         && heads.takes_there(rule.take, local)
-        && need_holds(rule.need.up, local.up)
-        && need_holds(rule.need.down, local.down)
+        && needs_hold(rule, local)
 }
 
 /// Whether everything that the rule's sets and its lock name exists, and its guard holds.
@@ -113,6 +112,7 @@ impl Plan {
     ///
     /// The rule can fire exactly where the child fits, the messages that it takes are there, both locks are as it needs
     /// them, everything that it names exists, its guard holds, and a send to children reaches one at least.
+    #[inline(always)]
     pub fn of(
         p: &Protocol,
         kind: Kind,

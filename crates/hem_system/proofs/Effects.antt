@@ -1,6 +1,6 @@
 -- What a firing names, and what it sees.
 use Rattle.std.proofs.Common.{◌≡◌, ◌∙◌, refl, sym, ap, subst, ℕ, ◌+◌, ◌<◌, arith, Bool, true, false, cond, List, [], ◌∷◌, ◌++◌, length, take, map, get_or, Option, Some, None, zero-add}
-use Rattle.std.specs.Prelude.{slice_get, IsTrue}
+use Rattle.std.specs.Prelude.{slice_get, IsTrue, ◌&&◌}
 use Rattle.std.specs.List.{list_all}
 use Rattle.std.proofs.lemmas.Simd.{map-map}
 use Rattle.std.proofs.lemmas.List.{take_more, map-append, length-map, length-take-le}
@@ -18,9 +18,13 @@ use Rattle.hem_syntax.specs.Protocol.{Protocol, rule_named}
 use Rattle.hem_object.specs.Local.{Local}
 use Rattle.hem_object.specs.declared.state.View.{View}
 use Rattle.hem_object.specs.Changes.{assign_names}
+use Rattle.hem_object.specs.Guard.{holds}
+use Rattle.hem_fire.specs.Heads.{takes_there}
+use Rattle.hem_fire.specs.Locks.{need_holds, lock_names, request_in_hand}
+use Rattle.hem_fire.specs.Sends.{send_names}
 use Rattle.hem_fire.specs.declared.plan.Plan.{Plan}
 use Rattle.hem_fire.specs.View.{view_of}
-use Rattle.hem_fire.specs.OneFire.{Heads, can_fire, local_after, outs_of}
+use Rattle.hem_fire.specs.OneFire.{Heads, me_fits, can_fire, local_after, outs_of}
 use Rattle.hem_fire.specs.Plans.{planned, plan_of, left_by}
 use Rattle.hem_fire.proofs.Parts.{names-can_fire}
 use Rattle.hem_tree.specs.Tree.{Tree, kind_of, children_of}
@@ -82,6 +86,24 @@ not_enabled p tree cells f cell kind rule me took at own took_is plan_is =
     let fails = sym same.can ∙ not_planned_by (can_fire p kind rule me local (heads_taken rule.take local heads)) (planned p kind rule me local (heads_taken rule.take local heads)) seen_is in
     effect_by p tree cells f cell kind rule me at own
     ∙ ap (λ (b : Bool). cond b (Some (effect_with heads (local_after p kind rule me local heads) (outs_of p kind rule me local heads))) None) fails
+
+-- of seven tests the second and the third don't both hold
+not_both : (x u d l n h s : Bool) → (u && d) ≡ false → (x && u && d && l && n && h && s) ≡ false
+not_both false u d l n h s is = refl
+not_both true false d l n h s is = refl
+not_both true true false l n h s is = refl
+not_both true true true l n h s is = cc
+
+-- a firing whose rule needs a lock otherwise than it is
+pub not_needed : (p : Protocol) (tree : Tree) (cells : List Kept) (f : Firing) (cell : Kept) (kind : Kind) (rule : Rule) (me : Option ℕ) → slice_get cells f.object.0 ≡ Some cell → ((local : Local) (heads : Heads) → own_effect p tree f local heads ≡ rule_effect p kind rule me local heads) → (need_holds rule.need.up cell.local.up && need_holds rule.need.down cell.local.down) ≡ false → effect_of p tree (line_of cells) f ≡ None
+not_needed p tree cells f cell kind rule me at own fails =
+    let local = cell.local in
+    let heads = heads_of tree (line_of cells) f.object.0 f.me in
+    let view = view_of rule.take me local heads in
+    let never : can_fire p kind rule me local heads ≡ false =
+    not_both (me_fits kind rule.take me (length local.dir) && takes_there rule.take local heads) (need_holds rule.need.up local.up) (need_holds rule.need.down local.down) (list_all (assign_names local view) rule.sets) (lock_names rule.lock view (request_in_hand p rule.take rule.send local view heads)) (holds rule.guard local view) (send_names kind rule.send local view) fails in
+    effect_by p tree cells f cell kind rule me at own
+    ∙ ap (λ (b : Bool). cond b (Some (effect_with heads (local_after p kind rule me local heads) (outs_of p kind rule me local heads))) None) never
 
 -- a firing that is possible on a line that is kept
 pub enabled-is : (p : Protocol) (tree : Tree) (cells : List Kept) (f : Firing) (cell : Kept) (kind : Kind) (rule : Rule) (me : Option ℕ) (took : Heads) (plan : Plan) → slice_get cells f.object.0 ≡ Some cell → ((local : Local) (heads : Heads) → own_effect p tree f local heads ≡ rule_effect p kind rule me local heads) → took ≡ heads_taken rule.take cell.local (heads_of tree (line_of cells) f.object.0 f.me) → Some plan ≡ plan_of p kind rule me cell.local took → IsEnabled p tree (line_of cells) f rule plan took

@@ -12,7 +12,7 @@ use crate::children::{children_of, own_place};
 use crate::lane::Lane;
 use arrayvec::ArrayVec;
 use hem_base::{Firing, KidSet, Kind, Message, ObjectId};
-use hem_fire::{Heads, Plan, awaited_of};
+use hem_fire::{Heads, Plan, awaited_of, needs_hold};
 use hem_object::Local;
 use hem_syntax::{Protocol, Rule, Take};
 use hem_tree::Tree;
@@ -122,6 +122,7 @@ fn parent_taken(cells: &[Cell], object: ObjectId, take: Take) -> Option<Message>
 }
 
 /// The heads that a rule takes at an object of the tree: no other list is looked at.
+#[inline(always)]
 fn heads_taken(tree: &Tree, cells: &[Cell], firing: Firing, take: Take, local: &Local) -> Heads
     requires { firing.object.0 < length tree.now }
     ensures { result ≡ heads_taken take local.now (heads_of tree.now (line_of cells.now) firing.object.0 firing.me) }
@@ -143,8 +144,8 @@ pub(crate) struct Enabled<'p> {
     pub(crate) took: Heads,
 }
 
-/// The rule, the plan and the heads of a firing, where it is possible on a line. It is put in place, so that what it
-/// answers isn't copied.
+/// The rule, the plan and the heads of a firing, where it is possible on a line. The locks are looked at before any
+/// message. It is put in place, so that what it answers isn't copied.
 #[inline(always)]
 pub(crate) fn enable<'p>(
     cells: &[Cell],
@@ -158,6 +159,9 @@ pub(crate) fn enable<'p>(
 {
     let cell = cells.get(firing.object.0 as usize)?;
     let Chosen { kind, rule, me } = look_up(p, tree, firing)?;
+    if !needs_hold(rule, &cell.local) {
+        return None;
+    }
     let took = heads_taken(tree, cells, firing, rule.take, &cell.local);
     let plan = Plan::of(p, kind, rule, me, &cell.local, &took)?;
     Some(Enabled { rule, plan, took })

@@ -122,7 +122,7 @@ impl System {
     }
 
     /// Makes a firing, and tells the event that was made. Where it isn't possible, or memory runs out, nothing changes.
-    #[inline]
+    #[inline(always)]
     pub fn step(&mut self, p: &Protocol, tree: &Tree, firing: Firing) -> Result<Event, StepFault>
         ensures ok { OnOk result (Fires p.now tree.now self.old firing self.new) }
         ensures event { IfOk result (λ event. event_in p.now tree.now self.old firing ≡ Some event) }
