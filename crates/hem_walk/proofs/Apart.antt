@@ -25,7 +25,7 @@ use Rattle.hem_system.proofs.Sets.{get_set_here, get_set_other}
 use Rattle.hem_system.proofs.Stepped.{fire_by}
 use Rattle.hem_system.proofs.Takers.{parent_is}
 use Rattle.hem_walk.specs.Walk.{firing_of, named, firings_of_rule, rules_of, is_ready, ready_at}
-use Rattle.hem_walk.specs.Near.{is_up, is_down, is_near}
+use Rattle.hem_walk.specs.Near.{is_up, is_near}
 use Rattle.hem_walk.specs.Working.{sends_to}
 use Rattle.hem_walk.proofs.Counting.{counted_elsewhere}
 
@@ -71,15 +71,7 @@ both_false : (b c : Bool) → c ≡ false → (b && c) ≡ false
 both_false true c is = is
 both_false false c is = refl
 
--- nothing comes down to another object than a child that is sent to
-not_down : (tree : Tree) (f : Firing) (t : To) (o : ℕ) → (is_down t && is_child tree o f.object.0) ≡ false → reaches tree f t o Down ≡ false
-not_down tree f to.Nobody o far = refl
-not_down tree f to.Answer o far = refl
-not_down tree f (to.Kid c) o far = ap (λ b. b && place_among tree f.object.0 o == c) far
-not_down tree f to.UpRequest o far = refl
-not_down tree f to.UpResponse o far = refl
-not_down tree f (to.Kids set) o far = ap (λ b. b && has_bit set.0 (place_among tree f.object.0 o)) far
-
+-- a firing sends nothing to a processor's requests
 no_request : (tree : Tree) (f : Firing) (t : To) (o : ℕ) → reaches tree f t o Requests ≡ false
 no_request tree f to.Nobody o = refl
 no_request tree f to.Answer o = refl
@@ -105,11 +97,11 @@ not_up_response tree f to.UpRequest k far = refl
 not_up_response tree f to.UpResponse k far = far refl
 not_up_response tree f (to.Kids set) k far = refl
 
-stay : (tree : Tree) (f : Firing) (e : Effect) (line : Line) (o : ℕ) → (o == f.object.0) ≡ false → (is_up e.outs.to && is_child tree f.object.0 o) ≡ false → (is_down e.outs.to && is_child tree o f.object.0) ≡ false → Stay tree o line (line_after tree f e line)
+stay : (tree : Tree) (f : Firing) (e : Effect) (line : Line) (o : ℕ) → (o == f.object.0) ≡ false → (is_up e.outs.to && is_child tree f.object.0 o) ≡ false → reaches tree f e.outs.to o Down ≡ false → Stay tree o line (line_after tree f e line)
 stay tree f e line o own parent child =
     record {
       local = local_keeps tree f e line o own;
-      down = list_keeps tree f e line o Down (both_false e.outs.taken_parent (o == f.object.0) own) (not_down tree f e.outs.to o child);
+      down = list_keeps tree f e line o Down (both_false e.outs.taken_parent (o == f.object.0) own) child;
       requests = list_keeps tree f e line o Requests (both_false (e.outs.taken_request && is_none f.me) (o == f.object.0) own) (no_request tree f e.outs.to o);
       kid_requests = λ k is.
           list_keeps tree f e line k UpRequests
@@ -205,7 +197,7 @@ possible_same p tree s next f g t fires sent far =
     let set = λ (l : ℕ). ap (λ (s : State). slice_get s l) it.after in
     ⊎_elim
     (λ here.
-    let parts = near_parts (g.line.0 == f.line.0) (g.object.0 == f.object.0) (is_up it.effect.outs.to && is_child tree f.object.0 g.object.0) (is_down it.effect.outs.to && is_child tree g.object.0 f.object.0) (ap (λ t. is_near tree f t g.line.0 g.object.0) to_is ∙ far) here.0 in
+    let parts = near_parts (g.line.0 == f.line.0) (g.object.0 == f.object.0) (is_up it.effect.outs.to && is_child tree f.object.0 g.object.0) (reaches tree f it.effect.outs.to g.object.0 Down) (ap (λ t. is_near tree f t g.line.0 g.object.0) to_is ∙ far) here.0 in
     let there = ap (slice_get s) here.1 ∙ it.there in
     let now = set g.line.0 ∙ ap (slice_get (slice_set s f.line.0 after)) here.1 ∙ get_set_here s f.line.0 after (slice_get_within s f.line.0 it.line it.there) in
     can_is p tree next g (Some after) now
@@ -231,7 +223,7 @@ all_alike t u g (x ∷ xs) same = find-append t (g x) (flat_map g xs) ∙ (λ i.
 -- and so it has the same ready firing
 pub ready_same : (p : Protocol) (tree : Tree) (k : ℕ) (h : List Firing) (s next : State) (f : Firing) (t : To) (l o : ℕ) → Fires p tree s f next → sends_to p tree s f ≡ Some t → is_near tree f t l o ≡ false → ready_at p tree k (h ++ f ∷ []) next l o ≡ ready_at p tree k h s l o
 ready_same p tree k h s next f t l o fires sent far =
-    let apart : is_at l o f ≡ false = elsewhere f.line.0 f.object.0 l o (is_up t && is_child tree f.object.0 o) (is_down t && is_child tree o f.object.0) far in
+    let apart : is_at l o f ≡ false = elsewhere f.line.0 f.object.0 l o (is_up t && is_child tree f.object.0 o) (reaches tree f t o Down) far in
     all_alike (is_ready p tree k (h ++ f ∷ []) next) (is_ready p tree k h s) (firings_of_rule tree l o) (rules_of p tree o)
     (λ rule. found_alike (is_ready p tree k (h ++ f ∷ []) next) (is_ready p tree k h s) (firing_of l o rule) (None ∷ map named (children_of tree o))
     (λ me. same (firing_of l o rule me) far (counted_elsewhere p tree h f l o apart)))

@@ -7,16 +7,18 @@ use Rattle.hem_base.specs.declared.ids.ObjectId.{ObjectId}
 use Rattle.hem_base.specs.declared.ids.Firing.{Firing}
 use Rattle.hem_syntax.specs.Protocol.{Protocol}
 use Rattle.hem_fire.specs.declared.outs.To.{To}
-use Rattle.hem_rows.proofs.Choices.{if_some}
+use Rattle.hem_fire.specs.declared.outs.To.TheVariants as to
+use Rattle.hem_rows.proofs.Choices.{both, if_some}
 use Rattle.hem_system.proofs.Own.{came}
 use Rattle.hem_system.proofs.Takers.{parent_is}
 use Rattle.hem_tree.proofs.Early.{lawful_early}
 use Rattle.std.proofs.lemmas.Option.{slice_get_within}
-use Rattle.hem_tree.specs.Tree.{Tree, Node, is_child, parent_of, IsLawful}
-use Rattle.hem_system.specs.State.{State, Fires, line_after}
+use Rattle.hem_tree.specs.Tree.{Tree, Node, is_child, parent_of, place_among, IsLawful}
+use Rattle.hem_system.specs.declared.lane.Lane.TheVariants.{Down}
+use Rattle.hem_system.specs.State.{State, Fires, line_after, reaches}
 use Rattle.hem_walk.specs.Walk.{position, ready_at, IsThere}
 use Rattle.hem_walk.specs.Marks.{is_in}
-use Rattle.hem_walk.specs.Near.{is_near, IsMarkedNear, IsMarked}
+use Rattle.hem_walk.specs.Near.{reaches_place, is_near, IsMarkedNear, IsMarked}
 use Rattle.hem_walk.specs.Working.{NoneReady, sends_to}
 use Rattle.hem_walk.proofs.Apart.{ready_same}
 use Rattle.hem_walk.proofs.Positions.{same_place}
@@ -81,6 +83,15 @@ pub child_there : (tree : Tree) (s : State) (l o low : ℕ) → IsThere tree s l
 child_there tree s l o low there is =
     let node = if_some (λ (node : Node). node.parent) (slice_get tree low) o (parent_is tree low o is) in
     record { line = there.line; object = slice_get_within tree low node.0 node.1 }
+
+-- an object to which a firing sends down is a child at a place that the message reaches
+pub sent_down : (tree : Tree) (f : Firing) (t : To) (low : ℕ) → reaches tree f t low Down ≡ true → (is_child tree low f.object.0 ≡ true) × (reaches_place t (place_among tree f.object.0 low) ≡ true)
+sent_down tree f (to.Kid c) low is = both (is_child tree low f.object.0) _ is
+sent_down tree f (to.Kids set) low is = both (is_child tree low f.object.0) _ is
+sent_down tree f to.Nobody low is = cc
+sent_down tree f to.Answer low is = cc
+sent_down tree f to.UpRequest low is = cc
+sent_down tree f to.UpResponse low is = cc
 
 -- the number of a child in a list
 pub kid_at : (kids : List ObjectId) (i : ℕ) (d : ObjectId) → i < length kids → slice_get (map (λ id. id.0) kids) i ≡ Some (get_or kids i d).0

@@ -1,11 +1,13 @@
 -- Which positions a firing can change, and the positions at which a firing may be ready.
 use Rattle.std.specs.Prelude.{ℕ, ◌≡◌, ◌==◌, ◌<◌, ◌/◌, Bool, true, false, ◌&&◌, ◌||◌, List, length, None}
+use Rattle.hem_base.specs.Sets.{has_bit}
 use Rattle.hem_base.specs.declared.ids.Firing.{Firing}
 use Rattle.hem_syntax.specs.Protocol.{Protocol}
 use Rattle.hem_fire.specs.declared.outs.To.{To}
 use Rattle.hem_fire.specs.declared.outs.To.TheVariants as to
 use Rattle.hem_tree.specs.Tree.{Tree, is_child}
-use Rattle.hem_system.specs.State.{State}
+use Rattle.hem_system.specs.declared.lane.Lane.TheVariants.{Down}
+use Rattle.hem_system.specs.State.{State, reaches}
 use Rattle.hem_walk.specs.Walk.{positions, position, ready_at, IsThere}
 use Rattle.hem_walk.specs.Marks.{is_in}
 
@@ -15,15 +17,15 @@ is_up to.UpRequest = true
 is_up to.UpResponse = true
 is_up _ = false
 
--- a firing sends to children
-abbrev pub is_down : To → Bool
-is_down (to.Kid c) = true
-is_down (to.Kids set) = true
-is_down _ = false
+-- a message goes to the child at that place
+abbrev pub reaches_place : To → ℕ → Bool
+reaches_place (to.Kid c) k = k == c
+reaches_place (to.Kids set) k = has_bit set.0 k
+reaches_place _ k = false
 
--- an object on a line is that of the firing, or its parent where it sends up, or one of its children where it sends down
+-- an object on a line is that of the firing, or its parent where it sends up, or a child to which it sends
 abbrev pub is_near : Tree → Firing → To → ℕ → ℕ → Bool
-is_near tree f t l o = l == f.line.0 && (o == f.object.0 || is_up t && is_child tree f.object.0 o || is_down t && is_child tree o f.object.0)
+is_near tree f t l o = l == f.line.0 && (o == f.object.0 || is_up t && is_child tree f.object.0 o || reaches tree f t o Down)
 
 -- these positions are in the set, and all that were in it before
 pub record IsMarkedNear (tree : Tree) (s : State) (f : Firing) (t : To) (old new : List ℕ) : Type 0 where

@@ -2,15 +2,28 @@
 
 ghost use Rattle.std.specs.Prelude.{◌≡◌, ◌<◌, ◌/◌, ℕ, true, length};
 ghost use Rattle.hem_tree.specs.Tree.{is_child};
+ghost use Rattle.hem_system.specs.declared.lane.Lane.{Lane};
+ghost use Rattle.hem_system.specs.State.{reaches};
 ghost use Rattle.hem_walk.specs.Walk.{IsThere, positions, position};
 ghost use Rattle.hem_walk.specs.Marks.{is_in};
-ghost use Rattle.hem_walk.specs.Near.{IsMarkedNear};
+ghost use Rattle.hem_walk.specs.Near.{reaches_place, IsMarkedNear};
 
 use crate::marks::Marks;
 use crate::working::{Walking, position};
 use hem_base::{Firing, LineId, ObjectId};
 use hem_fire::To;
 use hem_tree::Tree;
+
+/// Whether a message goes to the child at that place.
+fn reaches_place(to: To, place: usize) -> bool
+    ensures { result ≡ reaches_place to place }
+{
+    match to {
+        To::Kid(kid) => place == usize::from(kid),
+        To::Kids(kids) => kids.has(place),
+        To::Nobody | To::Answer | To::UpRequest | To::UpResponse => false,
+    }
+}
 
 impl Walking {
     /// Puts in the position of an object on a line.
@@ -39,22 +52,36 @@ impl Walking {
         }
     }
 
-    /// Puts in the positions of the children of the object that fires.
-    fn mark_below(&self, tree: &Tree, marks: &mut Marks, firing: Firing)
+    /// Puts in the position of an object on a line, where that is wanted.
+    fn mark_if(&self, tree: &Tree, marks: &mut Marks, line: LineId, object: ObjectId, wanted: bool)
+        requires there { IsThere tree.now self.now.system line.0 object.0 }
+        requires size { positions tree.now self.now.system / 64 < length marks.old }
+        ensures here { wanted ≡ true → is_in marks.new (position tree.now line.0 object.0) ≡ true }
+        ensures kept { (n : ℕ) → is_in marks.old n ≡ true → is_in marks.new n ≡ true }
+        ensures size { length marks.new ≡ length marks.old }
+    {
+        if wanted {
+            self.mark(tree, marks, line, object);
+        }
+    }
+
+    /// Puts in the positions of the children to which the object that fires sends its message.
+    fn mark_below(&self, tree: &Tree, marks: &mut Marks, firing: Firing, to: To)
         requires there { IsThere tree.now self.now.system firing.line.0 firing.object.0 }
         requires size { positions tree.now self.now.system / 64 < length marks.old }
-        ensures below { (low : ℕ) → is_child tree.now low firing.object.0 ≡ true → is_in marks.new (position tree.now firing.line.0 low) ≡ true }
+        ensures below { (low : ℕ) → reaches tree.now firing to low Lane.Down ≡ true → is_in marks.new (position tree.now firing.line.0 low) ≡ true }
         ensures kept { (n : ℕ) → is_in marks.old n ≡ true → is_in marks.new n ≡ true }
         ensures size { length marks.new ≡ length marks.old }
     {
         let children = tree.children(firing.object);
-        for child in children {
-            self.mark(tree, marks, firing.line, *child);
+        for (place, child) in children.iter().enumerate() {
+            let wanted = reaches_place(to, place);
+            self.mark_if(tree, marks, firing.line, *child, wanted);
         }
     }
 
     /// Puts in the positions that a firing can change: on its line that of its object, that of the parent where it sends up,
-    /// and those of the children where it sends down.
+    /// and those of the children to which it sends.
     pub(crate) fn mark_near(&self, tree: &Tree, marks: &mut Marks, firing: Firing, to: To)
         requires there { IsThere tree.now self.now.system firing.line.0 firing.object.0 }
         requires size { positions tree.now self.now.system / 64 < length marks.old }
@@ -63,7 +90,7 @@ impl Walking {
         self.mark(tree, marks, firing.line, firing.object);
         match to {
             To::UpRequest | To::UpResponse => self.mark_above(tree, marks, firing),
-            To::Kid(_) | To::Kids(_) => self.mark_below(tree, marks, firing),
+            To::Kid(_) | To::Kids(_) => self.mark_below(tree, marks, firing, to),
             To::Nobody | To::Answer => {}
         }
     }

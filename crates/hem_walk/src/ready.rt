@@ -4,10 +4,11 @@ ghost use Rattle.std.specs.Prelude.{◌≡◌, ◌<◌, ◌≤◌, ◌/◌, ◌%
 ghost use Rattle.hem_walk.specs.Walk.{IsThere, IsTurn, IsOver, is_spent, is_ready, firing_of, named, firings_of_rule, ready_at, positions};
 ghost use Rattle.hem_system.specs.Ended.{self_firings};
 ghost use Rattle.hem_tree.specs.Tree.{children_of};
-ghost use Rattle.hem_walk.specs.Firsts.{IsRuleOf, names_child};
+ghost use Rattle.hem_walk.specs.Firsts.{IsGlance, IsRuleOf, names_child};
 ghost use Rattle.hem_walk.specs.Near.{IsMarked};
 ghost use Rattle.hem_walk.specs.Working.{IsCounted, IsFirst, NoneReady};
 
+use crate::firsts::Glance;
 use crate::marks::Marks;
 use crate::working::{Walking, is_self, position};
 use hem_base::{Firing, LineId, ObjectId};
@@ -82,13 +83,15 @@ impl Walking {
         p: &Protocol,
         tree: &Tree,
         work: &Work,
+        glance: &Glance<'_>,
         line: LineId,
         object: ObjectId,
         rule: &Rule,
     ) -> Option<Firing>
         requires counted { IsCounted p.now tree.now self.now.journal self.now.system self.now.selfs }
         requires there { IsThere tree.now self.now.system line.0 object.0 }
-        requires rule { IsRuleOf p.now tree.now object.0 rule.now.name rule.now.take }
+        requires glance { IsGlance p.now tree.now work.now.self_count self.now.journal self.now.system line.0 object.0 glance.now }
+        requires rule { IsRuleOf p.now tree.now object.0 rule.now }
         ensures { result ≡ find (is_ready p.now tree.now work.now.self_count self.now.journal self.now.system) (map (firing_of line.0 object.0 rule.now) (map named (children_of tree.now object.0))) }
     {
         let children = tree.children(object);
@@ -99,7 +102,7 @@ impl Walking {
                 rule: rule.name,
                 me: Some(*child),
             };
-            if self.is_ready_taking(p, tree, work, firing, rule.take) {
+            if self.is_ready_with(p, tree, work, glance, firing, rule) {
                 return Some(firing);
             }
         }
@@ -112,13 +115,15 @@ impl Walking {
         p: &Protocol,
         tree: &Tree,
         work: &Work,
+        glance: &Glance<'_>,
         line: LineId,
         object: ObjectId,
         rule: &Rule,
     ) -> Option<Firing>
         requires counted { IsCounted p.now tree.now self.now.journal self.now.system self.now.selfs }
         requires there { IsThere tree.now self.now.system line.0 object.0 }
-        requires rule { IsRuleOf p.now tree.now object.0 rule.now.name rule.now.take }
+        requires glance { IsGlance p.now tree.now work.now.self_count self.now.journal self.now.system line.0 object.0 glance.now }
+        requires rule { IsRuleOf p.now tree.now object.0 rule.now }
         ensures { result ≡ find (is_ready p.now tree.now work.now.self_count self.now.journal self.now.system) (firings_of_rule tree.now line.0 object.0 rule.now) }
     {
         let alone = Firing {
@@ -127,14 +132,41 @@ impl Walking {
             rule: rule.name,
             me: None,
         };
-        if self.is_ready_taking(p, tree, work, alone, rule.take) {
+        if self.is_ready_alone(p, tree, work, glance, alone, rule) {
             return Some(alone);
         }
         if names_child(rule.take) {
-            self.first_of_child(p, tree, work, line, object, rule)
+            self.first_of_child(p, tree, work, glance, line, object, rule)
         } else {
             None
         }
+    }
+
+    /// The first ready firing of an object on a line of which that is seen.
+    fn first_seen(
+        &self,
+        p: &Protocol,
+        tree: &Tree,
+        work: &Work,
+        glance: &Glance<'_>,
+        line: LineId,
+        object: ObjectId,
+    ) -> Option<Firing>
+        requires counted { IsCounted p.now tree.now self.now.journal self.now.system self.now.selfs }
+        requires there { IsThere tree.now self.now.system line.0 object.0 }
+        requires glance { IsGlance p.now tree.now work.now.self_count self.now.journal self.now.system line.0 object.0 glance.now }
+        ensures { result ≡ ready_at p.now tree.now work.now.self_count self.now.journal self.now.system line.0 object.0 }
+    {
+        let kind = tree.kind(object);
+        // That no name stands twice among the rules of a kind.
+        let _part = p.part(kind);
+        let rules = p.rules(kind);
+        for rule in rules {
+            if let Some(firing) = self.first_of_rule(p, tree, work, glance, line, object, rule) {
+                return Some(firing);
+            }
+        }
+        None
     }
 
     /// The first ready firing of an object on a line.
@@ -150,16 +182,10 @@ impl Walking {
         requires there { IsThere tree.now self.now.system line.0 object.0 }
         ensures { result ≡ ready_at p.now tree.now work.now.self_count self.now.journal self.now.system line.0 object.0 }
     {
-        let kind = tree.kind(object);
-        // That no name stands twice among the rules of a kind.
-        let _part = p.part(kind);
-        let rules = p.rules(kind);
-        for rule in rules {
-            if let Some(firing) = self.first_of_rule(p, tree, work, line, object, rule) {
-                return Some(firing);
-            }
+        match self.glance(p, tree, work, line, object) {
+            Some(glance) => self.first_seen(p, tree, work, &glance, line, object),
+            None => None,
         }
-        None
     }
 
     /// The object and the line of a position.

@@ -2,7 +2,7 @@ use Rattle.std.proofs.Common.{◌≡◌, drop}
 use Rattle.std.specs.Prelude.{find}
 use Rattle.std.specs.List.{flat_map}
 use Rattle.hem_walk.specs.Walk.{firings_of_rule, is_ready}
-use Rattle.hem_walk.proofs.working.Walking.first_at.Given as goal
+use Rattle.hem_walk.proofs.working.Walking.first_seen.Given as goal
 
 -- the first of the firings that are left is the first of all
 abbrev pub invariant-loop-rule : goal.invariant-loop-rule
