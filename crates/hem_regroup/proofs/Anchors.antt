@@ -1,25 +1,17 @@
 -- The highest objects, found from the last firing on.
-use Rattle.std.proofs.Common.{◌≡◌, ◌≢◌, refl, sym, ap, ◌∙◌, ℕ, zero, suc, ◌+◌, ◌-◌, ◌<◌, false, cond, List, [], ◌∷◌, length, map, drop, get_or, set, Option, None, Some, add-one, drop-cons, arith, ⊎_elim}
+use Rattle.std.proofs.Common.{◌≡◌, ◌≢◌, refl, sym, ap, ◌∙◌, ℕ, zero, suc, ◌+◌, ◌-◌, ◌<◌, cond, List, [], ◌∷◌, length, map, drop, get_or, set, Option, None, Some, arith, ⊎_elim}
+use Rattle.std.specs.Prelude.{slice_get}
 use Rattle.std.proofs.lemmas.Bool.{eq-eqb, ne_eqb, cases_eq}
 use Rattle.std.proofs.lemmas.List.{get_or-set_other, get_or-set_same}
 use Rattle.hem_regroup.specs.declared.numbered.Numbered.{Numbered}
 use Rattle.hem_regroup.specs.declared.tops.Top.{Top}
 use Rattle.hem_regroup.specs.Normal.{top_at, upper, top_from, place_of, AreBelow}
-
--- a numbered firing of none
-abbrev pub no_numbered : Numbered
-no_numbered = record { number = 0; firing = record { line = record { 0 = 0 }; object = record { 0 = 0 }; rule = record { 0 = 0 }; me = None }; level = 0; upward = false }
-
-pub number-below : (count : ℕ) (xs : List Numbered) (k : ℕ) (d : Numbered) → k < length xs → AreBelow count xs → (get_or xs k d).number < count
-number-below count [] k d within below = absurd (omega arith)
-number-below count (x ∷ xs) zero d within below = below.0
-number-below count (x ∷ xs) (suc k) d within below = number-below count xs k d (omega arith) below.1
+use Rattle.hem_regroup.proofs.AtPlaces.{drop_there, each_there}
 
 -- the tops of one firing more
-tops_at : (all : List Numbered) (j : ℕ) (tops new : List (Option Top)) → j < length all → ((n : ℕ) → n < length all → get_or tops n None ≡ top_from (j + 1) (drop (j + 1) all) n) → length tops ≡ length all → AreBelow (length all) all → new ≡ set tops (get_or all j no_numbered).number (Some (upper (get_or tops (get_or all j no_numbered).number None) (top_at j (get_or all j no_numbered)))) → (n : ℕ) → n < length all → get_or new n None ≡ top_from j (drop j all) n
-tops_at all j tops new within were size below written n inside =
-    let x = get_or all j no_numbered in
-    let x_below : x.number < length tops = let it = number-below (length all) all j no_numbered within below in omega (arith, it, size) in
+tops_at : (count : ℕ) (all : List Numbered) (j : ℕ) (x : Numbered) (tops new : List (Option Top)) → slice_get all j ≡ Some x → ((n : ℕ) → n < count → get_or tops n None ≡ top_from (j + 1) (drop (j + 1) all) n) → length tops ≡ count → AreBelow count all → new ≡ set tops x.number (Some (upper (get_or tops x.number None) (top_at j x))) → (n : ℕ) → n < count → get_or new n None ≡ top_from j (drop j all) n
+tops_at count all j x tops new there were size below written n inside =
+    let x_below : x.number < length tops = let it = each_there (λ x. x.number < count) all j x there below in omega (arith, it, size) in
     ap (λ tops. get_or tops n None) written
     ∙ ⊎_elim
     (λ (same : x.number ≡ n).
@@ -32,15 +24,13 @@ tops_at all j tops new within were size below written n inside =
     ∙ were n inside
     ∙ ap (λ b. cond b (Some (upper (top_from (j + 1) (drop (j + 1) all) n) (top_at j x))) (top_from (j + 1) (drop (j + 1) all) n)) (sym (ne_eqb x.number n other)))
     (cases_eq x.number n)
-    ∙ ap (λ xs. top_from j (x ∷ xs) n) (ap (λ k. drop k all) (add-one j))
-    ∙ ap (λ xs. top_from j xs n) (sym (drop-cons all j no_numbered within))
+    ∙ ap (λ xs. top_from j xs n) (sym (drop_there all j x there))
 
-pub tops_more : (all : List Numbered) (back : ℕ) (tops new : List (Option Top)) → back < length all → ((n : ℕ) → n < length all → get_or tops n None ≡ top_from (length all - back) (drop (length all - back) all) n) → length tops ≡ length all → AreBelow (length all) all → new ≡ set tops (get_or all (length all - 1 - back) no_numbered).number (Some (upper (get_or tops (get_or all (length all - 1 - back) no_numbered).number None) (top_at (length all - 1 - back) (get_or all (length all - 1 - back) no_numbered)))) → (n : ℕ) → n < length all → get_or new n None ≡ top_from (length all - (back + 1)) (drop (length all - (back + 1)) all) n
-tops_more all back tops new within were size below written n inside =
-    let j = length all - 1 - back in
-    let next : j + 1 ≡ length all - back = omega arith in
-    let last : j ≡ length all - (back + 1) = omega arith in
-    tops_at all j tops new (omega arith) (λ n inside. were n inside ∙ ap (λ k. top_from k (drop k all) n) (sym next)) size below written n inside
+pub tops_more : (count : ℕ) (all : List Numbered) (back j : ℕ) (x : Numbered) (tops new : List (Option Top)) → back < length all → j ≡ length all - 1 - back → slice_get all j ≡ Some x → ((n : ℕ) → n < count → get_or tops n None ≡ top_from (length all - back) (drop (length all - back) all) n) → length tops ≡ count → AreBelow count all → new ≡ set tops x.number (Some (upper (get_or tops x.number None) (top_at j x))) → (n : ℕ) → n < count → get_or new n None ≡ top_from (length all - (back + 1)) (drop (length all - (back + 1)) all) n
+tops_more count all back j x tops new within is there were size below written n inside =
+    let next : j + 1 ≡ length all - back = omega (arith, within, is) in
+    let last : j ≡ length all - (back + 1) = omega (arith, within, is) in
+    tops_at count all j x tops new there (λ n inside. were n inside ∙ ap (λ k. top_from k (drop k all) n) (sym next)) size below written n inside
     ∙ ap (λ k. top_from k (drop k all) n) last
 
 -- the place of the top of one number

@@ -9,9 +9,15 @@ pub mod OutOnce
 pub mod Printing
 pub mod Grouped
 pub mod NormalMembers
+pub mod AtPlaces
 pub mod Anchors
 pub mod Placing
 pub mod Started
+pub mod Renumbered
+pub mod RankNumbers
+pub mod RankSteps
+pub mod ByRank
+pub mod NumberedPlaces
 pub mod Numbering
 pub mod UpwardTable
 pub mod Begun

@@ -1,5 +1,7 @@
 -- Histories as numbered firings.
-use Rattle.std.proofs.Common.{◌≡◌, refl, sym, ap, ◌∙◌, subst, ℕ, ◌+◌, ◌<◌, true, List, [], ◌∷◌, length, map, Some}
+use Rattle.std.proofs.Common.{◌≡◌, refl, sym, ap, ◌∙◌, subst, ℕ, zero, suc, ◌+◌, ◌<◌, ◌≤◌, Bool, true, false, cond, List, [], ◌∷◌, length, map, get_or, Some, arith, ⊎_elim}
+use Rattle.std.specs.Prelude.{◌==◌, slice_get}
+use Rattle.std.proofs.lemmas.Bool.{eqb-true, or_cases, true≢false}
 use Rattle.std.proofs.lemmas.List.{length-map}
 use Rattle.hem_base.specs.declared.ids.Firing.{Firing}
 use Rattle.hem_syntax.specs.Protocol.{Protocol}
@@ -21,11 +23,15 @@ use Rattle.hem_law.proofs.NormalRun.{start-fresh}
 use Rattle.hem_law.proofs.Transactions.{are-transactions}
 use Rattle.hem_serial.specs.Histories.{entries, printed_blocks}
 use Rattle.hem_regroup.specs.declared.numbered.Numbered.{Numbered}
-use Rattle.hem_regroup.specs.Normal.{all_numbered, normal_members, ArePlaced}
+use Rattle.hem_regroup.specs.Normal.{numbered_of, all_numbered, normal_members, ArePlaced}
 use Rattle.hem_regroup.specs.Printed.{blocks_of}
 use Rattle.hem_regroup.specs.Starts.{starts, AreAmong, AreStarted}
 use Rattle.hem_regroup.specs.Numbering.{numbered_at, numbered_by}
+use Rattle.hem_regroup.specs.Ranks.{firsts, AreFirst}
 use Rattle.hem_regroup.specs.Histories.{IsNumberedHistory}
+use Rattle.hem_regroup.proofs.AtPlaces.{each_there}
+use Rattle.hem_regroup.proofs.NumberedPlaces.{no_firing, numbered_there}
+use Rattle.hem_regroup.proofs.ByRank.{starts-firsts}
 use Rattle.hem_regroup.proofs.Started.{transactions-same, printed-numbered}
 
 -- each firing is at an object of the tree
@@ -88,6 +94,46 @@ history-started p tree h numbers it =
     let are = are-transactions p tree (start p tree it.work) h it.end (start-fresh p tree it.work) it.history.runs.leads in
     subst (λ all. AreStarted all) (sym (numbered-history p tree h numbers it))
     (subst (λ left. AreAmong (all_numbered es) left) (transactions-same 0 es (placed p tree it.work h)) (among-entries (transactions_of es) es are.begun))
+
+-- each number is the place of its first firing
+least-at : (k : ℕ) (es : List Entry) (j : ℕ) (x : Numbered) → ArePlaced k es → Each (λ e. e.number ≤ e.place) es → slice_get (all_numbered es) j ≡ Some x → x.number ≤ k + j
+least-at k [] j x placed least there = absurd cc
+least-at k (e ∷ es) zero x placed least there =
+    let same : numbered_of e ≡ x = cc in
+    let number = ap (λ x. x.number) same in
+    let at = placed.0 in
+    let low = least.0 in
+    omega (arith, number, at, low)
+least-at k (e ∷ es) (suc j) x placed least there = let it = least-at (k + 1) es j x placed.1 least.1 there in omega (arith, it)
+
+-- an entry's number that stands among the first ones is the number at its place
+first-at : (k : ℕ) (numbers : List ℕ) (u : ℕ) → stands_in (firsts k numbers) u ≡ true → (j : ℕ) × (u ≡ k + j) × (get_or numbers j 0 ≡ u)
+first-at k [] u there = absurd (true≢false (sym there))
+first-at k (n ∷ numbers) u there = by_test (k == n) refl there (first-at (k + 1) numbers u)
+  where
+    by_test : (b : Bool) → (k == n) ≡ b → stands_in (cond b (n ∷ firsts (k + 1) numbers) (firsts (k + 1) numbers)) u ≡ true → (stands_in (firsts (k + 1) numbers) u ≡ true → (j : ℕ) × (u ≡ k + 1 + j) × (get_or numbers j 0 ≡ u)) → (j : ℕ) × (u ≡ k + j) × (get_or (n ∷ numbers) j 0 ≡ u)
+    by_test true is there rest =
+        ⊎_elim
+        (λ here. let same = eqb-true n u here in let at = eqb-true k n is in (0, omega (arith, same, at), same))
+        (λ later. let it = rest later in (suc it.0, (let at = it.1 in omega (arith, at)), it.2))
+        (or_cases (n == u) (stands_in (firsts (k + 1) numbers) u) there)
+    by_test false is there rest = let it = rest there in (suc it.0, (let at = it.1 in omega (arith, at)), it.2)
+
+pub first_each : (p : Protocol) (tree : Tree) (h : List Firing) (numbers : List ℕ) → IsNumberedHistory p tree h numbers → AreFirst numbers
+first_each p tree h numbers it =
+    let es = entries p tree it.work h in
+    let are = are-transactions p tree (start p tree it.work) h it.end (start-fresh p tree it.work) it.history.runs.leads in
+    let each = one-each p tree h numbers it in
+    let started = history-started p tree h numbers it in
+    record {
+      least = λ k inside. let low = least-at 0 es k (numbered_at p tree (get_or h k no_firing) (get_or numbers k 0)) (placed p tree it.work h) are.least
+          (ap (λ xs. slice_get xs k) (sym (numbered-history p tree h numbers it)) ∙ numbered_there p tree h numbers k no_firing each (omega (arith, inside, each))) in omega (arith, low);
+      same = λ k inside.
+          let there = each_there (λ x. stands_in (starts 0 (numbered_by p tree h numbers)) x.number ≡ true) (numbered_by p tree h numbers) k (numbered_at p tree (get_or h k no_firing) (get_or numbers k 0)) (numbered_there p tree h numbers k no_firing each (omega (arith, inside, each))) started in
+          let at = first-at 0 numbers (get_or numbers k 0) (ap (λ ns. stands_in ns (get_or numbers k 0)) (sym (starts-firsts p tree 0 h numbers each)) ∙ there) in
+          let zero_plus : get_or numbers k 0 ≡ at.0 = let is = at.1 in omega (arith, is) in
+          ap (λ j. get_or numbers j 0) zero_plus ∙ at.2;
+    }
 
 -- and their blocks are those of the history
 pub history-blocks : (p : Protocol) (tree : Tree) (h : List Firing) (numbers : List ℕ) (all : List Numbered) (it : IsNumberedHistory p tree h numbers) → all ≡ numbered_by p tree h numbers → blocks_of (normal_members all) (starts 0 all) ≡ printed_blocks p tree it.work h

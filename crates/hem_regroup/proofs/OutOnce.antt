@@ -6,6 +6,7 @@ use Rattle.hem_law.specs.Orders.{stands_in}
 use Rattle.hem_base.specs.declared.ids.Firing.{Firing}
 use Rattle.hem_trace.specs.Blocks.{Block}
 use Rattle.hem_regroup.specs.Printed.{block_among}
+use Rattle.hem_regroup.specs.Ranks.{started}
 use Rattle.std.proofs.Math.Seq.{take-suc}
 use Rattle.std.proofs.lemmas.List.{map-append}
 use Rattle.std.proofs.lemmas.List.Folds.{list_any_at, list_any_more}
@@ -50,21 +51,22 @@ once_before (x ∷ xs) (suc k) once within =
     at_place xs k d within = list_any_at (λ u. u == get_or xs k d) xs k d within (eq-eqb _ _ refl)
 
 -- the blocks so far, and the lists of those whose blocks come later
-pub record AreTaken (groups : List (List Firing)) (out : List ℕ) (left : List (List Firing)) (blocks : List Block) : Type 0 where
-  pub blocks_are : blocks ≡ map (block_among groups) out
+pub record AreTaken (starts : List ℕ) (groups : List (List Firing)) (out : List ℕ) (left : List (List Firing)) (blocks : List Block) : Type 0 where
+  pub blocks_are : blocks ≡ map (started starts) (map (block_among groups) out)
   pub size : length left ≡ length groups
   pub others : (u : ℕ) → stands_in out u ≡ false → slice_index_or left u [] ≡ slice_index_or groups u []
 
 -- one more block
-pub taken_more : (groups : List (List Firing)) (order : List ℕ) (k : ℕ) (left next : List (List Firing)) (blocks more : List Block) (firings : List Firing) → AreOnce order → k < length order → AreTaken groups (take k order) left blocks → firings ≡ slice_index_or left (get_or order k 0) [] → ((t : ℕ) → t ≢ get_or order k 0 → slice_index_or next t [] ≡ slice_index_or left t []) → length next ≡ length left → more ≡ blocks ++ record { number = get_or order k 0; firings = firings } ∷ [] → AreTaken groups (take (k + 1) order) next more
-taken_more groups order k left next blocks more firings once within were taken others size pushed =
+pub taken_more : (starts : List ℕ) (groups : List (List Firing)) (order : List ℕ) (k : ℕ) (left next : List (List Firing)) (blocks more : List Block) (firings : List Firing) → AreOnce order → k < length order → AreTaken starts groups (take k order) left blocks → firings ≡ slice_index_or left (get_or order k 0) [] → ((t : ℕ) → t ≢ get_or order k 0 → slice_index_or next t [] ≡ slice_index_or left t []) → length next ≡ length left → more ≡ blocks ++ record { number = get_or starts (get_or order k 0) 0; firings = firings } ∷ [] → AreTaken starts groups (take (k + 1) order) next more
+taken_more starts groups order k left next blocks more firings once within were taken others size pushed =
     let x = get_or order k 0 in
     record {
       blocks_are =
           pushed
-          ∙ (λ i. were.blocks_are i ++ record { number = x; firings = (taken ∙ were.others x (once_before order k once within)) i } ∷ [])
-          ∙ sym (map-append (block_among groups) (take k order) (x ∷ []))
-          ∙ ap (map (block_among groups)) (sym (ap (λ k. take k order) (add-one k) ∙ take-suc order k 0 within));
+          ∙ (λ i. were.blocks_are i ++ record { number = get_or starts x 0; firings = (taken ∙ were.others x (once_before order k once within)) i } ∷ [])
+          ∙ sym (map-append (started starts) (map (block_among groups) (take k order)) (block_among groups x ∷ []))
+          ∙ ap (map (started starts)) (sym (map-append (block_among groups) (take k order) (x ∷ [])))
+          ∙ ap (λ ts. map (started starts) (map (block_among groups) ts)) (sym (ap (λ k. take k order) (add-one k) ∙ take-suc order k 0 within));
       size = size ∙ were.size;
       others = λ u later.
           let parts = or_parts (stands_in (take k order) u) (x == u) (sym (list_any_more (λ n. n == u) order k 0 within) ∙ later) in

@@ -1,14 +1,13 @@
 -- The members in the normal order, firing by firing.
-use Rattle.std.proofs.Common.{◌≡◌, ◌≢◌, refl, sym, ap, ◌∙◌, subst, ℕ, zero, suc, ◌+◌, ◌<◌, ◌≤◌, Bool, true, false, ◌&&◌, cond, List, [], ◌∷◌, ◌++◌, append_assoc, append-nil, length, take, drop, get_or, Some, add-one, drop-cons, arith, ⊎_elim}
+use Rattle.std.proofs.Common.{◌≡◌, ◌≢◌, refl, sym, ap, ◌∙◌, subst, ℕ, zero, suc, ◌+◌, ◌<◌, ◌≤◌, Bool, true, false, ◌&&◌, cond, List, [], ◌∷◌, ◌++◌, append_assoc, append-nil, length, take, drop, get_or, Some, arith, ⊎_elim}
 use Rattle.std.specs.Prelude.{◌==◌, nat_lt, slice_get, slice_index_or, unwrap_or}
-use Rattle.std.proofs.Math.Seq.{take-suc}
 use Rattle.std.proofs.lemmas.Bool.{eq-eqb, eqb-true, ne_eqb, cases_eq, cond-false, le-ltb, and_right}
 use Rattle.std.proofs.lemmas.List.{length-take-le}
-use Rattle.std.proofs.lemmas.Option.{get_or_from_slice_get, slice_get-get_or, unwrap_or-slice_get}
+use Rattle.std.proofs.lemmas.Option.{get_or_from_slice_get, slice_get-get_or, slice_get_within, unwrap_or-slice_get}
 use Rattle.hem_regroup.specs.declared.member.Member.{Member}
 use Rattle.hem_regroup.specs.declared.numbered.Numbered.{Numbered}
 use Rattle.hem_regroup.specs.Normal.{member_at, anchor, is_moved, held_from, with_held, normal_from, normal_members, shown, kept, IsPlacing}
-use Rattle.hem_regroup.proofs.Anchors.{no_numbered}
+use Rattle.hem_regroup.proofs.AtPlaces.{drop_there, take_there}
 
 -- where nothing is held back
 pub none_kept : (at place : ℕ) (x : Numbered) (held : List (List Member)) → (x.upward && nat_lt place at) ≡ false → x.number < length held → slice_get held x.number ≡ Some (slice_index_or held x.number [] ++ kept at place x)
@@ -76,18 +75,16 @@ shown-held at place x held other same = ap (λ those. cond (x.upward && nat_lt p
     by true is = same (let at_it = eqb-true place at is in omega (arith, at_it))
     by false is = refl
 
-members_next : (all : List Numbered) (place : ℕ) (members new : List Member) (held : List (List Member)) → place < length all → IsPlacing all place members held → new ≡ members ++ shown (anchor all (get_or all place no_numbered).number) place (get_or all place no_numbered) (slice_index_or held (get_or all place no_numbered).number []) → new ++ normal_from all (place + 1) (drop (place + 1) all) ≡ normal_members all
-members_next all place members new held within placing pushed =
-    let x = get_or all place no_numbered in
+members_next : (all : List Numbered) (place : ℕ) (x : Numbered) (members new : List Member) (held : List (List Member)) → slice_get all place ≡ Some x → IsPlacing all place members held → new ≡ members ++ shown (anchor all x.number) place x (slice_index_or held x.number []) → new ++ normal_from all (place + 1) (drop (place + 1) all) ≡ normal_members all
+members_next all place x members new held found placing pushed =
     let rest = normal_from all (place + 1) (drop (place + 1) all) in
-    ap (λ new. new ++ rest) (pushed ∙ ap (λ more. members ++ more) (shown-held (anchor all x.number) place x (slice_index_or held x.number []) (held_from all 0 (take place all) x.number) (placing.held_are x.number)) ∙ ap (λ more. members ++ more) (shown-with all place x (omega arith)))
+    ap (λ new. new ++ rest) (pushed ∙ ap (λ more. members ++ more) (shown-held (anchor all x.number) place x (slice_index_or held x.number []) (held_from all 0 (take place all) x.number) (placing.held_are x.number)) ∙ ap (λ more. members ++ more) (shown-with all place x (let inside = slice_get_within all place x found in omega (arith, inside))))
     ∙ append_assoc members (with_held all place x) rest
-    ∙ ap (λ more. members ++ more) (ap (λ k. normal_from all place (x ∷ drop k all)) (add-one place) ∙ ap (normal_from all place) (sym (drop-cons all place no_numbered within)))
+    ∙ ap (λ more. members ++ more) (ap (normal_from all place) (sym (drop_there all place x found)))
     ∙ placing.members_are
 
-held_next : (all : List Numbered) (place : ℕ) (held new : List (List Member)) → place < length all → ((n : ℕ) → place ≤ anchor all n → slice_index_or held n [] ≡ held_from all 0 (take place all) n) → (place ≢ anchor all (get_or all place no_numbered).number → slice_get new (get_or all place no_numbered).number ≡ Some (slice_index_or held (get_or all place no_numbered).number [] ++ kept (anchor all (get_or all place no_numbered).number) place (get_or all place no_numbered))) → ((t : ℕ) → t ≢ (get_or all place no_numbered).number → slice_get new t ≡ slice_get held t) → (n : ℕ) → place + 1 ≤ anchor all n → slice_index_or new n [] ≡ held_from all 0 (take (place + 1) all) n
-held_next all place held new within were there others n before_anchor =
-    let x = get_or all place no_numbered in
+held_next : (all : List Numbered) (place : ℕ) (x : Numbered) (held new : List (List Member)) → slice_get all place ≡ Some x → ((n : ℕ) → place ≤ anchor all n → slice_index_or held n [] ≡ held_from all 0 (take place all) n) → (place ≢ anchor all x.number → slice_get new x.number ≡ Some (slice_index_or held x.number [] ++ kept (anchor all x.number) place x)) → ((t : ℕ) → t ≢ x.number → slice_get new t ≡ slice_get held t) → (n : ℕ) → place + 1 ≤ anchor all n → slice_index_or new n [] ≡ held_from all 0 (take (place + 1) all) n
+held_next all place x held new found were there others n before_anchor =
     let before = held_from all 0 (take place all) n in
     let so_far : slice_index_or held n [] ≡ before = were n (omega (arith, before_anchor)) in
     ⊎_elim
@@ -105,17 +102,14 @@ held_next all place held new within were there others n before_anchor =
     ∙ ap (λ b. before ++ cond (b && is_moved all place x) (member_at x ∷ []) []) (sym (ne_eqb x.number n other)))
     (cases_eq x.number n)
     ∙ ap (λ members. before ++ members) (sym (append-nil (cond (x.number == n && is_moved all place x) (member_at x ∷ []) [])))
-    ∙ ap (λ k. before ++ held_from all k (x ∷ []) n) (sym (let size = length-take-le place all (omega arith) in let at : 0 + length (take place all) ≡ place = omega (arith, size) in at))
+    ∙ ap (λ k. before ++ held_from all k (x ∷ []) n) (sym (let inside = slice_get_within all place x found in let size = length-take-le place all (omega (arith, inside)) in let at : 0 + length (take place all) ≡ place = omega (arith, size) in at))
     ∙ sym (held-append all 0 (take place all) (x ∷ []) n)
-    ∙ ap (λ xs. held_from all 0 xs n) (sym (take-suc all place no_numbered within))
-    ∙ ap (λ k. held_from all 0 (take k all) n) (sym (add-one place))
+    ∙ ap (λ xs. held_from all 0 xs n) (sym (take_there all place x found))
 
 -- one firing more
-pub placing_next : (all : List Numbered) (place at : ℕ) (members new_members : List Member) (held new_held : List (List Member)) → place < length all → IsPlacing all place members held → at ≡ anchor all (get_or all place no_numbered).number → new_members ≡ members ++ shown at place (get_or all place no_numbered) (slice_index_or held (get_or all place no_numbered).number []) → (place ≢ at → slice_get new_held (get_or all place no_numbered).number ≡ Some (slice_index_or held (get_or all place no_numbered).number [] ++ kept at place (get_or all place no_numbered))) → ((t : ℕ) → t ≢ (get_or all place no_numbered).number → slice_get new_held t ≡ slice_get held t) → length new_held ≡ length held → IsPlacing all (place + 1) new_members new_held
-placing_next all place at members new_members held new_held within placing is pushed there others size =
-    let x = get_or all place no_numbered in
+pub placing_next : (all : List Numbered) (place at : ℕ) (x : Numbered) (members new_members : List Member) (held new_held : List (List Member)) → slice_get all place ≡ Some x → IsPlacing all place members held → at ≡ anchor all x.number → new_members ≡ members ++ shown at place x (slice_index_or held x.number []) → (place ≢ at → slice_get new_held x.number ≡ Some (slice_index_or held x.number [] ++ kept at place x)) → ((t : ℕ) → t ≢ x.number → slice_get new_held t ≡ slice_get held t) → IsPlacing all (place + 1) new_members new_held
+placing_next all place at x members new_members held new_held found placing is pushed there others =
     record {
-      members_are = members_next all place members new_members held within placing (pushed ∙ ap (λ at. members ++ shown at place x (slice_index_or held x.number [])) is);
-      held_size = size ∙ placing.held_size;
-      held_are = held_next all place held new_held within placing.held_are (λ away. there (λ here. away (here ∙ is)) ∙ ap (λ at. Some (slice_index_or held x.number [] ++ kept at place x)) is) others;
+      members_are = members_next all place x members new_members held found placing (pushed ∙ ap (λ at. members ++ shown at place x (slice_index_or held x.number [])) is);
+      held_are = held_next all place x held new_held found placing.held_are (λ away. there (λ here. away (here ∙ is)) ∙ ap (λ at. Some (slice_index_or held x.number [] ++ kept at place x)) is) others;
     }

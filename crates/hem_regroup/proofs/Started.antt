@@ -65,7 +65,7 @@ with-whole all k x left among there = by_tests (is_moved all k x) (k == anchor a
     by_tests false true = each-append (λ m. stands_in left m.number ≡ true) (held_from all 0 all x.number) (member_at x ∷ []) (held-whole all 0 all x.number left among) (there, tt)
     by_tests false false = (there, tt)
 
-normal-whole : (all : List Numbered) (k : ℕ) (xs : List Numbered) (left : List ℕ) → AreAmong all left → AreAmong xs left → IsWhole (normal_from all k xs) left
+pub normal-whole : (all : List Numbered) (k : ℕ) (xs : List Numbered) (left : List ℕ) → AreAmong all left → AreAmong xs left → IsWhole (normal_from all k xs) left
 normal-whole all k [] left all_among among = tt
 normal-whole all k (x ∷ xs) left all_among among = each-append (λ m. stands_in left m.number ≡ true) (with_held all k x) (normal_from all (k + 1) xs) (with-whole all k x left all_among among.0) (normal-whole all (k + 1) xs left all_among among.1)
 

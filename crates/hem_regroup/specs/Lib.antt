@@ -3,6 +3,7 @@ pub mod Turns
 pub mod Printed
 pub mod Normal
 pub mod Starts
+pub mod Ranks
 pub mod Numbering
 pub mod Histories
 pub mod Out

@@ -1,5 +1,5 @@
 -- The normal order of numbered firings.
-use Rattle.std.specs.Prelude.{ℕ, ◌==◌, ◌≡◌, ◌+◌, ◌<◌, ◌≤◌, nat_lt, Bool, ◌&&◌, ◌||◌, cond, List, [], ◌∷◌, ◌++◌, map, length, take, drop, slice_index_or, Option, None, Some}
+use Rattle.std.specs.Prelude.{ℕ, ◌==◌, ◌≡◌, ◌+◌, ◌<◌, ◌≤◌, nat_lt, Bool, ◌&&◌, ◌||◌, cond, List, [], ◌∷◌, ◌++◌, map, take, drop, slice_index_or, Option, None, Some}
 use Rattle.std.specs.Option.{option_map_or}
 use Rattle.hem_regroup.specs.declared.member.Member.{Member}
 use Rattle.hem_regroup.specs.declared.numbered.Numbered.{Numbered}
@@ -87,5 +87,4 @@ kept anchor place x = cond (x.upward && nat_lt place anchor) (member_at x ∷ []
 -- before a place: the members in the normal order so far, and of each transaction whose anchor is still to come those held back
 pub record IsPlacing (all : List Numbered) (place : ℕ) (members : List Member) (held : List (List Member)) : Type 0 where
   pub members_are : members ++ normal_from all place (drop place all) ≡ normal_members all
-  pub held_size : length held ≡ length all
   pub held_are : (n : ℕ) → place ≤ anchor all n → slice_index_or held n [] ≡ held_from all 0 (take place all) n

@@ -2,6 +2,7 @@
 #![tactic(auto)]
 
 mod blocks;
+mod firings;
 mod graph;
 mod known;
 mod last;
@@ -11,10 +12,11 @@ mod member;
 mod normal;
 mod numbered;
 mod order;
+mod ranked;
+mod ranks;
 mod ready;
 mod regrouping;
 mod replayed;
-mod starts;
 mod tops;
 mod upward;
 

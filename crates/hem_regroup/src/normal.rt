@@ -3,6 +3,7 @@
 ghost use Rattle.std.specs.Prelude.{cond, ◌∷◌, ◌≡◌, ◌≢◌, ℕ, ◌+◌, ◌<◌, nat_lt, ◌&&◌, [], ◌++◌, length, Some, slice_get, slice_index_or, IfOk, OnOk};
 ghost use Rattle.hem_regroup.specs.Normal.{member_at, shown, kept, anchor, normal_members, AreBelow, IsPlacing};
 
+use crate::firings::Firings;
 use crate::lists::{append, empty_lists, take_out};
 use crate::member::Member;
 use crate::numbered::Numbered;
@@ -60,28 +61,33 @@ fn place_next(
     members: &mut Vec<Member>,
     held: &mut List<List<Member>>,
     anchors: &[usize],
-    all: &[Numbered],
+    all: &Firings,
     place: usize,
 ) -> Result<(), OutOfMemory>
     requires within { place < length all.now }
-    requires below { AreBelow (length all.now) all.now }
-    requires size { length anchors.now ≡ length all.now }
-    requires anchors { (n : ℕ) → n < length all.now → slice_index_or anchors.now n 0 ≡ anchor all.now n }
+    requires below { AreBelow (length anchors.now) all.now }
+    requires size { length held.old ≡ length anchors.now }
+    requires anchors { (n : ℕ) → n < length anchors.now → slice_index_or anchors.now n 0 ≡ anchor all.now n }
     requires placing { IsPlacing all.now place members.old.items held.old }
-    ensures { OnOk result (IsPlacing all.now (place + 1) members.new.items held.new) }
+    ensures placing { OnOk result (IsPlacing all.now (place + 1) members.new.items held.new) }
+    ensures size { length held.new ≡ length held.old }
 {
-    let x = all[place];
+    let x = all.at(place);
     place_one(alloc, members, held, anchors[x.number], place, x)
 }
 
 /// The firings in their normal order: each upward request that stands before its transaction's anchor is moved to just
-/// before it.
-pub(crate) fn normal_order(alloc: Global, all: &[Numbered]) -> Result<Vec<Member>, OutOfMemory>
-    requires { AreBelow (length all.now) all.now }
+/// before it. The firings are of so many transactions.
+pub(crate) fn normal_order(
+    alloc: Global,
+    count: usize,
+    all: &Firings,
+) -> Result<Vec<Member>, OutOfMemory>
+    requires { AreBelow count all.now }
     ensures { IfOk result (λ members. members.items ≡ normal_members all.now) }
 {
-    let anchors = all_anchors(alloc, all)?;
-    let mut held = empty_lists(alloc, all.len())?;
+    let anchors = all_anchors(alloc, count, all)?;
+    let mut held = empty_lists(alloc, count)?;
     let mut members = Vec::with_capacity(alloc, all.len())?;
     for place in 0..all.len() {
         place_next(

@@ -7,9 +7,10 @@ ghost use Rattle.hem_trace.specs.Blocks.{IsSerial, SameFirings, firings_of};
 ghost use Rattle.hem_serial.specs.Histories.{printed_blocks};
 ghost use Rattle.hem_regroup.specs.Histories.{IsNumberedHistory};
 
+use crate::firings::Firings;
 use crate::known::known;
-use crate::numbered::numbered_firings;
-use crate::starts::blocks_of_numbered;
+use crate::ranked::blocks_of_ranked;
+use crate::ranks::Ranks;
 use hem_base::{Firing, OutOfMemory};
 use hem_check::Accepted;
 use hem_syntax::Protocol;
@@ -36,13 +37,14 @@ fn blocks_of_history(
     p: &Protocol,
     tree: &Tree,
     history: &[Firing],
-    numbers: &[usize],
+    numbers: Vec<usize>,
 ) -> Result<Vec<Block>, OutOfMemory>
-    requires { IsNumberedHistory p.now tree.now history.now numbers.now }
-    ensures { (it : IsNumberedHistory p.now tree.now history.now numbers.now) → IfOk result (λ blocks. blocks.items ≡ printed_blocks p.now tree.now it.work history.now) }
+    requires { IsNumberedHistory p.now tree.now history.now numbers.items }
+    ensures { (it : IsNumberedHistory p.now tree.now history.now numbers.items) → IfOk result (λ blocks. blocks.items ≡ printed_blocks p.now tree.now it.work history.now) }
 {
-    let all = numbered_firings(alloc, p, tree, history, numbers)?;
-    blocks_of_numbered(alloc, all.as_slice())
+    let Ranks { starts, ranks } = Ranks::of(alloc, numbers)?;
+    let all = Firings::of(alloc, p, tree, history, ranks.as_slice())?;
+    blocks_of_ranked(alloc, starts.as_slice(), &all)
 }
 
 /// Replays a history, and regroups it: each firing is made once. `Illegal` tells the first firing that isn't possible. The
@@ -65,6 +67,6 @@ pub fn replay_and_regroup<R: Threads + Sync>(
     known(a, tree);
     let p = a.protocol();
     let NumberedRun { end, numbers } = numbered_replay(alloc, p, tree, work, history)?;
-    let blocks = blocks_of_history(alloc, p, tree, history, &numbers)?;
+    let blocks = blocks_of_history(alloc, p, tree, history, numbers)?;
     Ok(Regrouped { end, blocks })
 }

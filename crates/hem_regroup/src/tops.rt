@@ -3,6 +3,7 @@
 ghost use Rattle.std.specs.Prelude.{◌≡◌, ℕ, ◌<◌, length, map, None, Some, slice_index_or, slice_set, IfOk};
 ghost use Rattle.hem_regroup.specs.Normal.{is_above, upper, top_at, top_from, place_of, anchor, AreBelow};
 
+use crate::firings::Firings;
 use crate::numbered::Numbered;
 use hem_base::OutOfMemory;
 use std::alloc::Global;
@@ -61,17 +62,16 @@ fn raise(tops: &mut Vec<Option<Top>>, place: usize, x: Numbered)
     tops[x.number] = Some(upper(tops[x.number], top_at(place, x)));
 }
 
-/// Of each transaction where the first of its firings at its highest object stands.
-fn all_tops(alloc: Global, all: &[Numbered]) -> Result<Vec<Option<Top>>, OutOfMemory>
-    requires { AreBelow (length all.now) all.now }
-    ensures size { IfOk result (λ tops. length tops.items ≡ length all.now) }
-    ensures tops { IfOk result (λ tops. (n : ℕ) → n < length all.now → slice_index_or tops.items n None ≡ top_from 0 all.now n) }
+/// Of each of so many transactions where the first of its firings at its highest object stands.
+fn all_tops(alloc: Global, count: usize, all: &Firings) -> Result<Vec<Option<Top>>, OutOfMemory>
+    requires { AreBelow count all.now }
+    ensures size { IfOk result (λ tops. length tops.items ≡ count) }
+    ensures tops { IfOk result (λ tops. (n : ℕ) → n < count → slice_index_or tops.items n None ≡ top_from 0 all.now n) }
 {
-    let count = all.len();
     let mut tops = vec![in alloc; None; count]?;
-    for back in 0..count {
-        let place = count - 1 - back;
-        raise(&mut tops, place, all[place]);
+    for back in 0..all.len() {
+        let place = all.len() - 1 - back;
+        raise(&mut tops, place, all.at(place));
     }
     Ok(tops)
 }
@@ -89,11 +89,15 @@ fn places(alloc: Global, tops: &[Option<Top>]) -> Result<Vec<usize>, OutOfMemory
 
 /// The place of each transaction's anchor, by the transaction's number. The tops are let go before other tables are
 /// made, which then stand in their room.
-pub(crate) fn all_anchors(alloc: Global, all: &[Numbered]) -> Result<Vec<usize>, OutOfMemory>
-    requires { AreBelow (length all.now) all.now }
-    ensures size { IfOk result (λ anchors. length anchors.items ≡ length all.now) }
-    ensures anchors { IfOk result (λ anchors. (n : ℕ) → n < length all.now → slice_index_or anchors.items n 0 ≡ anchor all.now n) }
+pub(crate) fn all_anchors(
+    alloc: Global,
+    count: usize,
+    all: &Firings,
+) -> Result<Vec<usize>, OutOfMemory>
+    requires { AreBelow count all.now }
+    ensures size { IfOk result (λ anchors. length anchors.items ≡ count) }
+    ensures anchors { IfOk result (λ anchors. (n : ℕ) → n < count → slice_index_or anchors.items n 0 ≡ anchor all.now n) }
 {
-    let tops = all_tops(alloc, all)?;
+    let tops = all_tops(alloc, count, all)?;
     places(alloc, tops.as_slice())
 }
