@@ -1,6 +1,6 @@
 //! A text that grows at its end.
 
-ghost use Rattle.std.specs.Prelude.{◌≡◌, [], ◌++◌, OnOk, IsTrue, codes, decimal};
+ghost use Rattle.std.specs.Prelude.{◌≡◌, [], ◌++◌, IfOk, OnOk, IsTrue, codes, decimal};
 ghost use Rattle.std.specs.String.{string_bytes};
 ghost use Rattle.hem_base.specs.Words.{word_bytes, is_word_text};
 
@@ -35,6 +35,15 @@ impl Output {
         Output {
             bytes: Vec::new(alloc),
         }
+    }
+
+    /// The empty text, with room for so many bytes. A text that stays within it isn't moved as it grows.
+    pub fn with_room(alloc: Global, bytes: usize) -> Result<Output, OutOfMemory>
+        ensures { IfOk result (λ output. output ≡ []) }
+    {
+        Ok(Output {
+            bytes: Vec::with_capacity(alloc, bytes)?,
+        })
     }
 
     /// The text. It takes no memory.

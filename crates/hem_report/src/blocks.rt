@@ -41,6 +41,33 @@ fn write_blocks(output: &mut Output, p: &Protocol, blocks: &[Block]) -> Result<(
     write_each_block(output, p, blocks)
 }
 
+/// Room for the text of blocks and a state behind it, by a guess: the lines of most firings and blocks are shorter.
+fn room_for(blocks: &[Block]) -> usize {
+    let mut room = 65_536_usize;
+    for block in blocks {
+        let firings = block.firings.len();
+        room = room
+            .saturating_add(16)
+            .saturating_add(firings.saturating_mul(20));
+    }
+    room
+}
+
+/// The text of blocks behind a first text.
+pub fn blocks_text_behind(
+    alloc: Global,
+    front: &str,
+    p: &Protocol,
+    blocks: &[Block],
+) -> Result<String, OutOfMemory>
+    ensures { IfOk result (λ text. string_bytes text ≡ front.now ++ blocks_text p.now blocks.now) }
+{
+    let mut output = Output::with_room(alloc, room_for(blocks))?;
+    output.text(front)?;
+    write_blocks(&mut output, p, blocks)?;
+    Ok(output.into_string())
+}
+
 /// The text of blocks: how many there are, and of each its number and its firings.
 pub fn blocks_text(alloc: Global, p: &Protocol, blocks: &[Block]) -> Result<String, OutOfMemory>
     ensures { IfOk result (λ text. string_bytes text ≡ blocks_text p.now blocks.now) }

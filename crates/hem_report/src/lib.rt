@@ -15,7 +15,7 @@ mod refusals;
 mod states;
 
 pub use accepted::accepted_text;
-pub use blocks::blocks_text;
+pub use blocks::{blocks_text, blocks_text_behind};
 pub use firings::illegal_text;
 pub use journals::{end_word_text, journal_text};
 pub use refusals::refusal_text;
