@@ -1,6 +1,6 @@
 //! A list of messages that is taken from its front.
 
-ghost use Rattle.std.specs.Prelude.{◌≡◌, [], ◌∷◌, ◌++◌, ◌-◌, drop, take, length, slice_get, OnOk, OnErr};
+ghost use Rattle.std.specs.Prelude.{◌≡◌, [], ◌∷◌, ◌++◌, ◌-◌, drop, take, length, slice_get, IfOk, OnOk, OnErr};
 
 use hem_base::{Message, OutOfMemory};
 use std::alloc::Global;
@@ -34,6 +34,14 @@ impl Queue {
             items: Vec::new(alloc),
             taken: 0,
         }
+    }
+
+    /// The list of these messages.
+    pub(crate) fn from_slice(alloc: Global, messages: &[Message]) -> Result<Queue, OutOfMemory>
+        ensures { IfOk result (λ queue. queue ≡ messages.now) }
+    {
+        let items = Vec::from_slice(alloc, messages)?;
+        Ok(Queue { items, taken: 0 })
     }
 
     /// The messages that are left, in order.

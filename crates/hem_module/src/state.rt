@@ -1,6 +1,6 @@
 //! The states of modules.
 
-ghost use Rattle.std.specs.Prelude.{◌≡◌, ◌<◌, length, map, [], slice_get, unwrap_or, IfOk, OnOk, OnErr};
+ghost use Rattle.std.specs.Prelude.{◌≡◌, ◌<◌, ◌∷◌, ◌++◌, length, map, [], slice_get, unwrap_or, IfOk, OnOk, OnErr};
 ghost use Rattle.std.specs.List.{list_any, list_all};
 ghost use Rattle.std.specs.Option.{option_map};
 ghost use Rattle.hem_module.specs.Step.{head_of, amount_in, test_holds};
@@ -70,6 +70,25 @@ impl ModState {
         let regs = start_numbers(alloc, m.regs())?;
         let queues = empty_queues(alloc, m.queues())?;
         Ok(ModState { regs, queues })
+    }
+
+    /// The state with these registers and no queue. It takes no memory.
+    pub fn with_registers(alloc: Global, regs: List<u64>) -> ModState
+        ensures { result ≡ record { regs = regs; queues = [] } }
+    {
+        ModState {
+            regs,
+            queues: List::new(alloc),
+        }
+    }
+
+    /// Puts a queue behind the others that holds these messages, head first. Where memory is wanted the state stays as
+    /// it was.
+    pub fn push_queue(&mut self, alloc: Global, messages: &[Message]) -> Result<(), OutOfMemory>
+        ensures ok { OnOk result (self.new ≡ record self.old { queues = self.old.queues ++ messages.now ∷ [] }) }
+        ensures err { OnErr result (self.new ≡ self.old) }
+    {
+        self.queues.push(Queue::from_slice(alloc, messages)?)
     }
 
     /// What the registers hold, in text order.

@@ -1,5 +1,5 @@
 -- The rules of all objects by places are the module rules as they are written.
-use Rattle.std.proofs.Common.{◌≡◌, refl, ap, ◌∙◌, ℕ, suc, ◌+◌, arith, List, [], ◌∷◌, ◌++◌, length, map, Some}
+use Rattle.std.proofs.Common.{◌≡◌, refl, ap, ◌∙◌, ℕ, ◌+◌, arith, [], length, map, Some}
 use Rattle.std.specs.Prelude.{slice_get, option_map}
 use Rattle.std.specs.List.{flat_map, enumerate_from}
 use Rattle.std.specs.Option.{option_map_or}
@@ -13,23 +13,7 @@ use Rattle.hem_emit.specs.Written.{written_test, written_amount, written_deed, w
 use Rattle.hem_translate.specs.ByPlace.{test_at, amount_at, deed_at, rule_by_places, places_of}
 use Rattle.hem_translate.specs.ByObject.{rules_by, object_rules}
 use Rattle.hem_translate.proofs.Statuses.{map_spread}
-use Rattle.hem_translate.proofs.Children.{below_first}
-
-fused : {B : Type 0} (f : ℕ → List B) (xs : List ℕ) → flat_map f (map suc xs) ≡ flat_map (λ i. f (suc i)) xs
-fused f [] = refl
-fused f (x ∷ xs) = ap (λ ys. f (suc x) ++ ys) (fused f xs)
-
--- what each number below the length gives, and what each element with its number does
-spread_below : {A B : Type 0} (f : ℕ → List B) (g : ℕ × A → List B) (n : ℕ) (xs : List A) → ((i : ℕ) (x : A) → slice_get xs i ≡ Some x → f i ≡ g (n + i, x)) → flat_map f (below (length xs)) ≡ flat_map g (enumerate_from n xs)
-spread_below f g n [] alike = refl
-spread_below f g n (x ∷ xs) alike =
-    let many : length (x ∷ xs) ≡ suc (length xs) = omega arith in
-    let here : n + 0 ≡ n = omega arith in
-    let first = alike 0 x refl ∙ ap (λ m. g (m, x)) here in
-    let rest = spread_below (λ i. f (suc i)) g (n + 1) xs (λ i y at. let next : n + suc i ≡ (n + 1) + i = omega arith in alike (suc i) y at ∙ ap (λ m. g (m, y)) next) in
-    ap (flat_map f) (ap below many ∙ below_first (length xs))
-    ∙ ap (λ ys. f 0 ++ ys) (fused f (below (length xs)))
-    ∙ (λ i. first i ++ rest i)
+use Rattle.hem_translate.proofs.Further.{spread_below}
 
 module _ (p : Protocol) (tree : Tree) where
   same_test : (t : Test) → test_at (places_of p tree) t ≡ written_test p tree t

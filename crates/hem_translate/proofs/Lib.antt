@@ -6,3 +6,8 @@ mod Children
 mod Kids
 mod Further
 mod AllRules
+mod Laid
+mod Apart
+mod FirstNumbers
+mod NamedApart
+mod OnLine

@@ -6,3 +6,5 @@ pub mod Amounts
 pub mod Targets
 pub mod ByChild
 pub mod ByObject
+pub mod Starts
+pub mod Lines

@@ -1,8 +1,9 @@
 //! An object of a tree with its children, and the places of registers and queues.
 
-ghost use Rattle.std.specs.Prelude.{◌≡◌, ◌++◌, ◌∷◌, [], ℕ, List as Items, map, not, filter, cond, IfOk, OnOk, nat_lt, slice_get};
+ghost use Rattle.std.specs.Prelude.{◌≡◌, ◌++◌, ◌∷◌, [], ℕ, List as Items, true, map, not, filter, cond, IfOk, OnOk, nat_lt, slice_get};
 ghost use Rattle.std.specs.Option.{option_map_or};
 ghost use Rattle.std.specs.List.{enumerate_from};
+ghost use Rattle.hem_module.specs.Lawful.{are_apart};
 ghost use Rattle.hem_emit.specs.Names.{same_reg, same_queue};
 ghost use Rattle.hem_emit.specs.Place.{kids_at, others_at, is_named};
 ghost use Rattle.hem_translate.specs.Kids.{numbers_of};
@@ -13,6 +14,7 @@ use crate::tables::{Queue, Reg};
 use hem_base::{Kind, List, ObjectId, OutOfMemory};
 use indexmap::IndexSet;
 use std::alloc::Global;
+use std::hash::Hash;
 use std::marker::Model;
 
 /// A child of an object: its place among the children, and its number. Seen as both.
@@ -139,7 +141,33 @@ impl Model for Places {
     ghost view = { λ l. record { regs = map reg_of l.regs.keys; queues = map queue_of l.queues.keys } };
 }
 
+/// These as a set, in order.
+fn set_of<T: Copy + Eq + Hash + Drop>(
+    alloc: Global,
+    items: &[T],
+) -> Result<IndexSet<T>, OutOfMemory>
+    requires { are_apart T.eq items.now ≡ true }
+    ensures { IfOk result (λ set. set.keys ≡ items.now) }
+{
+    let mut set = IndexSet::new(alloc);
+    for item in items {
+        set.insert(*item)?;
+    }
+    Ok(set)
+}
+
 impl Places {
+    /// The places of these registers and queues.
+    pub(crate) fn of(alloc: Global, regs: &[Reg], queues: &[Queue]) -> Result<Places, OutOfMemory>
+        requires regs { are_apart same_reg (map reg_of regs.now) ≡ true }
+        requires queues { are_apart same_queue (map queue_of queues.now) ≡ true }
+        ensures { IfOk result (λ l. l ≡ record { regs = map reg_of regs.now; queues = map queue_of queues.now }) }
+    {
+        let regs = set_of(alloc, regs)?;
+        let queues = set_of(alloc, queues)?;
+        Ok(Places { regs, queues })
+    }
+
     /// The place of a register; 0 where it isn't there.
     pub(crate) fn reg(&self, r: Reg) -> usize
         ensures { result ≡ reg_at self.now (reg_of r) }

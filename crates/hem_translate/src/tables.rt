@@ -53,7 +53,7 @@ pub(crate) enum Queue {
 }
 
 /// Appends the registers of an object's fields.
-fn push_fields(regs: &mut List<Reg>, o: u32, count: u8) -> Result<(), OutOfMemory>
+pub(crate) fn push_fields(regs: &mut List<Reg>, o: u32, count: u8) -> Result<(), OutOfMemory>
     ensures { OnOk result (map reg_of regs.new ≡ map reg_of regs.old ++ map (λ i. field i o) (below count)) }
 {
     for place in 0..count {
@@ -63,7 +63,7 @@ fn push_fields(regs: &mut List<Reg>, o: u32, count: u8) -> Result<(), OutOfMemor
 }
 
 /// Appends the registers of an object's uplock.
-fn push_uplock(regs: &mut List<Reg>, o: u32) -> Result<(), OutOfMemory>
+pub(crate) fn push_uplock(regs: &mut List<Reg>, o: u32) -> Result<(), OutOfMemory>
     ensures { OnOk result (map reg_of regs.new ≡ map reg_of regs.old ++ lock_registers o Up) }
 {
     regs.push(Reg::Up(Part::Origin, o))?;
@@ -72,7 +72,7 @@ fn push_uplock(regs: &mut List<Reg>, o: u32) -> Result<(), OutOfMemory>
 }
 
 /// Appends the registers of an object's downlock.
-fn push_downlock(regs: &mut List<Reg>, o: u32) -> Result<(), OutOfMemory>
+pub(crate) fn push_downlock(regs: &mut List<Reg>, o: u32) -> Result<(), OutOfMemory>
     ensures { OnOk result (map reg_of regs.new ≡ map reg_of regs.old ++ lock_registers o Down) }
 {
     regs.push(Reg::Down(Part::Origin, o))?;
@@ -89,7 +89,7 @@ fn push_child(regs: &mut List<Reg>, child: ObjectId) -> Result<(), OutOfMemory>
 }
 
 /// Appends the registers that an object keeps of its children.
-fn push_children(regs: &mut List<Reg>, children: &[ObjectId]) -> Result<(), OutOfMemory>
+pub(crate) fn push_children(regs: &mut List<Reg>, children: &[ObjectId]) -> Result<(), OutOfMemory>
     ensures { OnOk result (map reg_of regs.new ≡ map reg_of regs.old ++ flat_map (λ c. entry c.0 ∷ awaits c.0 ∷ []) children.now) }
 {
     for child in children {
@@ -99,7 +99,7 @@ fn push_children(regs: &mut List<Reg>, children: &[ObjectId]) -> Result<(), OutO
 }
 
 /// Appends the queues of an object of a kind.
-fn push_queues(queues: &mut List<Queue>, kind: Kind, o: u32) -> Result<(), OutOfMemory>
+pub(crate) fn push_queues(queues: &mut List<Queue>, kind: Kind, o: u32) -> Result<(), OutOfMemory>
     ensures { OnOk result (map queue_of queues.new ≡ map queue_of queues.old ++ queues_at kind o) }
 {
     if kind != Kind::Root {
