@@ -28,13 +28,13 @@ use Rattle.hem_document.specs.Documents.{IsExact, IsProtocolDocument, IsTreeDocu
 use Rattle.hem_document.proofs.OneAfterAnother.{IsExactFront, Both, one_after_another, exact_by, fault_is, whole_exact}
 
 -- a part of a grammar is read once
-part_once : {E T I : Type 0} (g : Grammar E T I) (s : State E T I) (ts d e : List Lexeme) (a b : E) → IsPart g s ts d a → IsPart g s ts e b → (d ≡ e) × (a ≡ b)
+pub part_once : {E T I : Type 0} (g : Grammar E T I) (s : State E T I) (ts d e : List Lexeme) (a b : E) → IsPart g s ts d a → IsPart g s ts e b → (d ≡ e) × (a ≡ b)
 part_once g s ts d e a b p q =
     let same = q.only.once p.count a p.reads in
     (p.others ∙ (ap (λ n. drop n ts) same.0 ∙ sym q.others), same.1)
 
 -- a grammar has one first fault
-first_once : {E T I : Type 0} (g : Grammar E T I) (s : State E T I) (ts : List Lexeme) (end : Place) (a b : TextFault) → IsFirstFault g s ts end (Text a) → IsFirstFault g s ts end (Text b) → a ≡ b
+pub first_once : {E T I : Type 0} (g : Grammar E T I) (s : State E T I) (ts : List Lexeme) (end : Place) (a b : TextFault) → IsFirstFault g s ts end (Text a) → IsFirstFault g s ts end (Text b) → a ≡ b
 first_once g s ts end a b p q =
     let same = q.4 p.0 a.cause p.1 in
     fault_is a b (p.2 ∙ (ap (place_at ts end) same.0 ∙ sym q.2)) same.1

@@ -32,7 +32,7 @@ passed_once tree j k b c p q =
     (same, some_once (passed_at tree k) b c (subst (λ x. passed_at tree x ≡ Some b) same p.here) q.here)
 
 -- nodes have one first fault
-tree_fault_once : (nodes : List RawNode) (f g : Fault) → IsTreeFault nodes f → IsTreeFault nodes g → f ≡ g
+pub tree_fault_once : (nodes : List RawNode) (f g : Fault) → IsTreeFault nodes f → IsTreeFault nodes g → f ≡ g
 tree_fault_once nodes f g p q =
     let same = passed_once (tree_of nodes) p.place q.place f.cause g.cause p.first q.first in
     let node = some_once (slice_get nodes q.place) p.node q.node (subst (λ x. slice_get nodes x ≡ Some p.node) same.0 p.there) q.there in

@@ -1,3 +1,4 @@
 pub mod Fronts
 pub mod Documents
 pub mod SetUp
+pub mod Playing

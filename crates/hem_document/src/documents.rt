@@ -1,6 +1,8 @@
 //! Documents, each with the parts that a job wants.
 
 use hem_base::{Firing, List};
+use hem_modtext::Fed;
+use hem_module::Modules;
 use hem_syntax::Protocol;
 use hem_tree::RawTree;
 use hem_work::RawWork;
@@ -25,4 +27,11 @@ pub struct WorkDocument {
 pub struct Document {
     pub setup: WorkDocument,
     pub history: List<Firing>,
+}
+
+/// Modules, and what their queues are fed.
+#[derive(Drop)]
+pub struct PlayDocument {
+    pub modules: Modules,
+    pub feed: List<Fed>,
 }

@@ -4,6 +4,7 @@ ghost use Rattle.std.specs.Prelude.{◌≡◌, ℕ, List};
 ghost use Rattle.hem_tree.specs.declared.setup.SetupFault.{SetupFault};
 ghost use Rattle.hem_document.specs.declared.documents.WorkDocument.{WorkDocument};
 ghost use Rattle.hem_document.specs.Documents.{IsExact, IsProtocolDocument, IsTreeDocument, IsWorkDocument, IsDocument, IsProtocolDocumentFault, IsTreeDocumentFault, IsWorkDocumentFault, IsDocumentFault};
+ghost use Rattle.hem_document.specs.Playing.{IsPlayDocument, IsPlayDocumentFault};
 ghost use Rattle.hem_document.specs.SetUp.{IsSetUp, IsSetupFault};
 
 /// Bytes are at most one document of each kind, or have one first fault, and never both.
@@ -12,6 +13,7 @@ pub fn documents_are_read_once()
     ensures tree { (bytes : List ℕ) → IsExact (IsTreeDocument bytes) (IsTreeDocumentFault bytes) }
     ensures work { (bytes : List ℕ) → IsExact (IsWorkDocument bytes) (IsWorkDocumentFault bytes) }
     ensures history { (bytes : List ℕ) → IsExact (IsDocument bytes) (IsDocumentFault bytes) }
+    ensures play { (bytes : List ℕ) → IsExact (IsPlayDocument bytes) (IsPlayDocumentFault bytes) }
 {}
 
 /// A document has one first broken rule at most, and none where its tree and its work are lawful.

@@ -3,10 +3,12 @@
 
 mod documents;
 mod laws;
+mod playing;
 mod reading;
 mod setting_up;
 
-pub use documents::{Document, TreeDocument, WorkDocument};
+pub use documents::{Document, PlayDocument, TreeDocument, WorkDocument};
 pub use laws::{documents_are_read_once, setups_have_one_fault};
+pub use playing::read_play_document;
 pub use reading::{read_document, read_protocol_document, read_tree_document, read_work_document};
 pub use setting_up::{Lawful, set_up};

@@ -15,7 +15,10 @@ use hem_work::read_work;
 use std::alloc::Global;
 
 /// What was read first, with what was read after it.
-fn joined<A: Drop, B>(first: A, second: Result<B, TextError>) -> Result<(A, B), TextError>
+pub(crate) fn joined<A: Drop, B>(
+    first: A,
+    second: Result<B, TextError>,
+) -> Result<(A, B), TextError>
     ensures ok { IfOk result (λ both. (both.0 ≡ first) × (second ≡ Ok both.1)) }
     ensures err { IfErr result (λ e. second ≡ Err e) }
 {
@@ -75,7 +78,7 @@ fn read_to_history(alloc: Global, cursor: &mut Cursor<'_>) -> Result<Document, T
 }
 
 /// What was read, where no token is left, and else the fault of the first that is.
-fn ended<D: Drop>(cursor: &Cursor<'_>, document: D) -> Result<D, TextError>
+pub(crate) fn ended<D: Drop>(cursor: &Cursor<'_>, document: D) -> Result<D, TextError>
     ensures same { IfOk result (λ d. d ≡ document) }
     ensures ok { OnOk result (cursor.now.tokens ≡ []) }
     ensures text { IfErr result (OfFault (IsTooLong cursor.now.tokens)) }

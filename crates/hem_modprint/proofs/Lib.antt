@@ -6,3 +6,4 @@ pub mod ClauseRuns
 pub mod ActionRuns
 pub mod RuleRuns
 pub mod Back
+mod Numbered

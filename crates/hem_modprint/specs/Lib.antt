@@ -1,2 +1,3 @@
 pub mod ModulesText
 pub mod ReadsBack
+pub mod PlayText

@@ -15,7 +15,11 @@ use hem_syntax::Named;
 use std::alloc::Global;
 
 /// Appends the line of a register, whose name is a word.
-fn write_register_line(output: &mut Output, name: &Name, start: u64) -> Result<(), OutOfMemory>
+pub(crate) fn write_register_line(
+    output: &mut Output,
+    name: &Name,
+    start: u64,
+) -> Result<(), OutOfMemory>
     requires { IsTrue (is_word_text name.now) }
     ensures text { OnOk result (output.new ≡ output.old ++ register_text (name.now, start)) }
     ensures fits { OnOk result (IsTrue (fits start)) }

@@ -2,9 +2,9 @@
 use Rattle.std.proofs.Common.{◌≡◌, ◌∙◌, refl, sym, ap, ap₂, arith, ℕ, List, [], ◌∷◌, Option, Some, None}
 use Rattle.std.specs.Option.{option_map_or}
 use Rattle.hem_words.specs.CommandLine.{Given}
-use Rattle.hem_words.specs.Job.{IsNumber, IsCountOf, IsSeedOf, IsJobOf, AsksFor}
+use Rattle.hem_words.specs.Job.{IsNumber, IsCountOf, IsMostOf, IsSeedOf, IsJobOf, AsksFor}
 use Rattle.hem_words.specs.declared.job.Job.{Job}
-use Rattle.hem_words.specs.declared.job.Job.TheVariants.{Check, Group, Walk, Make}
+use Rattle.hem_words.specs.declared.job.Job.TheVariants.{Check, Group, Walk, Emit, Play, Make}
 
 -- the first letter of a text
 abbrev first_letter : List ℕ → ℕ
@@ -16,6 +16,8 @@ abbrev letter_of : Job → ℕ
 letter_of Check = 99
 letter_of Group = 103
 letter_of (Walk count seed) = 119
+letter_of Emit = 101
+letter_of (Play most) = 112
 letter_of (Make count seed) = 109
 
 -- the job given begins with the letter of the job's word
@@ -23,6 +25,8 @@ letter : (g : Given) (job : Job) → IsJobOf g job → option_map_or first_lette
 letter g Check is = ap (λ t. option_map_or first_letter t 0) is.0
 letter g Group is = ap (λ t. option_map_or first_letter t 0) is.0
 letter g (Walk count seed) is = ap (λ t. option_map_or first_letter t 0) is.0
+letter g Emit is = ap (λ t. option_map_or first_letter t 0) is.0
+letter g (Play most) is = ap (λ t. option_map_or first_letter t 0) is.0
 letter g (Make count seed) is = ap (λ t. option_map_or first_letter t 0) is.0
 
 counts_once : (text : Option (List ℕ)) (a b : Option ℕ) → IsCountOf text a → IsCountOf text b → a ≡ b
@@ -37,6 +41,10 @@ seeds_once : (text : Option (List ℕ)) (a b : ℕ) → IsSeedOf text a → IsSe
 seeds_once None a b p q = p ∙ sym q
 seeds_once (Some text) a b p q = p.value ∙ sym q.value
 
+mosts_once : (text : Option (List ℕ)) (a b : ℕ) → IsMostOf text a → IsMostOf text b → a ≡ b
+mosts_once None a b p q = p ∙ sym q
+mosts_once (Some text) a b p q = p.0.value ∙ sym q.0.value
+
 same_some : (a b : ℕ) → Some a ≡ Some b → a ≡ b
 same_some a b is = cc
 
@@ -44,19 +52,39 @@ same_some a b is = cc
 one_job : (g : Given) (a b : Job) → letter_of a ≡ letter_of b → IsJobOf g a → IsJobOf g b → a ≡ b
 one_job g Check Check same p q = refl
 one_job g Check Group same p q = absurd (omega (arith, same))
-one_job g Check (Walk count seed) same p q = absurd (omega (arith, same))
-one_job g Check (Make count seed) same p q = absurd (omega (arith, same))
+one_job g Check (Walk b t) same p q = absurd (omega (arith, same))
+one_job g Check Emit same p q = absurd (omega (arith, same))
+one_job g Check (Play b) same p q = absurd (omega (arith, same))
+one_job g Check (Make b t) same p q = absurd (omega (arith, same))
 one_job g Group Check same p q = absurd (omega (arith, same))
 one_job g Group Group same p q = refl
-one_job g Group (Walk count seed) same p q = absurd (omega (arith, same))
-one_job g Group (Make count seed) same p q = absurd (omega (arith, same))
-one_job g (Walk count seed) Check same p q = absurd (omega (arith, same))
-one_job g (Walk count seed) Group same p q = absurd (omega (arith, same))
+one_job g Group (Walk b t) same p q = absurd (omega (arith, same))
+one_job g Group Emit same p q = absurd (omega (arith, same))
+one_job g Group (Play b) same p q = absurd (omega (arith, same))
+one_job g Group (Make b t) same p q = absurd (omega (arith, same))
+one_job g (Walk a s) Check same p q = absurd (omega (arith, same))
+one_job g (Walk a s) Group same p q = absurd (omega (arith, same))
 one_job g (Walk a s) (Walk b t) same p q = ap₂ (λ x y. Walk x y) (counts_once g.count a b p.1 q.1) (seeds_once g.seed s t p.2 q.2)
+one_job g (Walk a s) Emit same p q = absurd (omega (arith, same))
+one_job g (Walk a s) (Play b) same p q = absurd (omega (arith, same))
 one_job g (Walk a s) (Make b t) same p q = absurd (omega (arith, same))
+one_job g Emit Check same p q = absurd (omega (arith, same))
+one_job g Emit Group same p q = absurd (omega (arith, same))
+one_job g Emit (Walk b t) same p q = absurd (omega (arith, same))
+one_job g Emit Emit same p q = refl
+one_job g Emit (Play b) same p q = absurd (omega (arith, same))
+one_job g Emit (Make b t) same p q = absurd (omega (arith, same))
+one_job g (Play a) Check same p q = absurd (omega (arith, same))
+one_job g (Play a) Group same p q = absurd (omega (arith, same))
+one_job g (Play a) (Walk b t) same p q = absurd (omega (arith, same))
+one_job g (Play a) Emit same p q = absurd (omega (arith, same))
+one_job g (Play a) (Play b) same p q = ap Play (mosts_once g.count a b p.1 q.1)
+one_job g (Play a) (Make b t) same p q = absurd (omega (arith, same))
 one_job g (Make a s) Check same p q = absurd (omega (arith, same))
 one_job g (Make a s) Group same p q = absurd (omega (arith, same))
 one_job g (Make a s) (Walk b t) same p q = absurd (omega (arith, same))
+one_job g (Make a s) Emit same p q = absurd (omega (arith, same))
+one_job g (Make a s) (Play b) same p q = absurd (omega (arith, same))
 one_job g (Make a s) (Make b t) same p q = ap₂ (λ x y. Make x y) (same_some a b (counts_once g.count (Some a) (Some b) p.1 q.1)) (seeds_once g.seed s t p.2 q.2)
 
 -- words ask for one job

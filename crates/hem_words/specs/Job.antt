@@ -5,7 +5,7 @@ use Rattle.std.specs.List.{list_all}
 use Rattle.hem_text.specs.Numbers.{number_of}
 use Rattle.hem_words.specs.CommandLine.{Given, AreTaken, given_in}
 use Rattle.hem_words.specs.declared.job.Job.{Job}
-use Rattle.hem_words.specs.declared.job.Job.TheVariants.{Check, Group, Walk, Make}
+use Rattle.hem_words.specs.declared.job.Job.TheVariants.{Check, Group, Walk, Emit, Play, Make}
 
 -- one to twenty digits that write the number n, of at most `most`
 pub record IsNumber (most : ℕ) (text : List ℕ) (n : ℕ) : Type 0 where
@@ -25,16 +25,23 @@ IsCountOf None None = ⊤
 IsCountOf (Some text) (Some n) = IsCount text n
 IsCountOf _ _ = ⊥
 
+-- how many firings a play makes at most: the count, and 100000 where none is there
+abbrev pub IsMostOf : Option (List ℕ) → ℕ → Type 0
+IsMostOf None n = n ≡ 100000
+IsMostOf (Some text) n = IsCount text n
+
 -- a seed of 64 bits, and 1 where none is there
 abbrev pub IsSeedOf : Option (List ℕ) → ℕ → Type 0
 IsSeedOf None n = n ≡ 1
 IsSeedOf (Some text) n = IsNumber 18446744073709551615 text n
 
--- the texts ask for a job: neither option goes with `check` and `group`, both may with `walk`, and `make` wants a count
+-- the texts ask for a job: neither option goes with `check`, `group` and `emit`, both may with `walk`, a count alone with `play`, and `make` wants a count
 abbrev pub IsJobOf : Given → Job → Type 0
 IsJobOf g Check = (g.job ≡ Some (codes "check")) × (g.count ≡ None) × (g.seed ≡ None)
 IsJobOf g Group = (g.job ≡ Some (codes "group")) × (g.count ≡ None) × (g.seed ≡ None)
 IsJobOf g (Walk count seed) = (g.job ≡ Some (codes "walk")) × IsCountOf g.count count × IsSeedOf g.seed seed
+IsJobOf g Emit = (g.job ≡ Some (codes "emit")) × (g.count ≡ None) × (g.seed ≡ None)
+IsJobOf g (Play most) = (g.job ≡ Some (codes "play")) × IsMostOf g.count most × (g.seed ≡ None)
 IsJobOf g (Make count seed) = (g.job ≡ Some (codes "make")) × IsCountOf g.count (Some count) × IsSeedOf g.seed seed
 
 -- the words ask for a job

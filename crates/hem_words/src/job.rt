@@ -5,7 +5,7 @@ ghost use Rattle.hem_words.specs.declared.job.Job.{Job};
 ghost use Rattle.hem_words.specs.Job.{IsJobOf, AsksFor, IsGood};
 
 use crate::command::{Given, read_words};
-use crate::numbers::{count_of, seed_of};
+use crate::numbers::{count_of, most_of, seed_of};
 use hem_base::OutOfMemory;
 use std::alloc::Global;
 
@@ -19,6 +19,10 @@ pub enum Job {
     /// To go on by one thread to the end, by the word `walk`. With a count so many generated requests come after those of
     /// the document.
     Walk { count: Option<u32>, seed: u64 },
+    /// To translate a protocol on a tree to modules, by the word `emit`.
+    Emit,
+    /// To play modules for so many firings at most, by the word `play`.
+    Play { most: u32 },
     /// To print a document with so many generated requests after its own, by the word `make`.
     Make { count: u32, seed: u64 },
 }
@@ -27,6 +31,7 @@ pub enum Job {
 fn plain(given: &Given<'_>, job: Job) -> Option<Job>
     ensures check { given.now.job ≡ Some (codes "check") → job ≡ Job.Check → MatchOption result ((j : Job) → ¬ IsJobOf given.now j) (IsJobOf given.now) }
     ensures group { given.now.job ≡ Some (codes "group") → job ≡ Job.Group → MatchOption result ((j : Job) → ¬ IsJobOf given.now j) (IsJobOf given.now) }
+    ensures emit { given.now.job ≡ Some (codes "emit") → job ≡ Job.Emit → MatchOption result ((j : Job) → ¬ IsJobOf given.now j) (IsJobOf given.now) }
 {
     match (given.count, given.seed) {
         (None, None) => Some(job),
@@ -48,6 +53,18 @@ fn walk(given: &Given<'_>) -> Option<Job>
     }
 }
 
+/// A play with these options.
+fn play(given: &Given<'_>) -> Option<Job>
+    ensures { (given.now.job ≡ Some (codes "play")) → MatchOption result ((j : Job) → ¬ IsJobOf given.now j) (IsJobOf given.now) }
+{
+    match given.seed {
+        None => Some(Job::Play {
+            most: most_of(given.count)?,
+        }),
+        Some(_) => None,
+    }
+}
+
 /// A making with these options.
 fn make(given: &Given<'_>) -> Option<Job>
     ensures { (given.now.job ≡ Some (codes "make")) → MatchOption result ((j : Job) → ¬ IsJobOf given.now j) (IsJobOf given.now) }
@@ -66,6 +83,8 @@ fn job_given(given: &Given<'_>) -> Option<Job>
         "check" => plain(given, Job::Check),
         "group" => plain(given, Job::Group),
         "walk" => walk(given),
+        "emit" => plain(given, Job::Emit),
+        "play" => play(given),
         "make" => make(given),
         _ => None,
     }

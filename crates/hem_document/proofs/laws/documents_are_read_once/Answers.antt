@@ -1,4 +1,5 @@
 use Rattle.hem_document.proofs.ReadOnce.{protocol_exact, tree_exact, work_exact, document_exact}
+use Rattle.hem_document.proofs.PlayOnce.{play_exact}
 use Rattle.hem_document.proofs.laws.documents_are_read_once.Goals as goal
 
 pub returns-clause-protocol : goal.returns-clause-protocol
@@ -12,3 +13,6 @@ returns-clause-work c = work_exact
 
 pub returns-clause-history : goal.returns-clause-history
 returns-clause-history c = document_exact
+
+pub returns-clause-play : goal.returns-clause-play
+returns-clause-play c = play_exact
