@@ -5,24 +5,22 @@ use Rattle.hem_base.specs.declared.ids.Firing.{Firing}
 use Rattle.hem_syntax.specs.Protocol.{Protocol}
 use Rattle.hem_tree.specs.Tree.{Tree}
 use Rattle.hem_work.specs.Work.{Work}
-use Rattle.hem_check.specs.Discipline.{Broken, IsDisciplined, first_broken}
-use Rattle.hem_check.specs.Refused.{refusal_of}
-use Rattle.hem_check.proofs.Clauses.{exact}
 use Rattle.hem_system.specs.State.{State, start}
 use Rattle.hem_trace.specs.Blocks.{Block}
 use Rattle.hem_trace.specs.Order.{entries_of, printed}
 use Rattle.hem_report.specs.Texts.{illegal_text}
 use Rattle.hem_report.specs.StateText.{state_text}
-use Rattle.hem_report.specs.RefusalText.{refusal_text}
 use Rattle.hem_document.specs.declared.documents.WorkDocument.{WorkDocument}
 use Rattle.hem_document.specs.declared.documents.Document.{Document}
-use Rattle.hem_document.specs.Documents.{IsProtocolDocument, IsProtocolDocumentFault, IsWorkDocument, IsWorkDocumentFault, IsDocument, IsDocumentFault}
+use Rattle.hem_document.specs.Documents.{IsProtocolDocument, IsProtocolDocumentFault, IsTreeDocument, IsTreeDocumentFault, IsWorkDocument, IsWorkDocumentFault, IsDocument, IsDocumentFault}
+use Rattle.hem_document.specs.Playing.{IsPlayDocument, IsPlayDocumentFault}
 use Rattle.hem_document.specs.SetUp.{tree_in, work_in}
-use Rattle.hem_document.proofs.ReadOnce.{protocol_exact, work_exact, document_exact}
+use Rattle.hem_document.proofs.ReadOnce.{protocol_exact, tree_exact, work_exact, document_exact}
+use Rattle.hem_document.proofs.PlayOnce.{play_exact}
 use Rattle.hem_document.proofs.SetUpOnce.{setup_fault_once, lawful_excludes}
 use Rattle.hem_words.specs.Job.{AsksFor, IsGood}
 use Rattle.hem_words.specs.declared.job.Job.{Job}
-use Rattle.hem_words.specs.declared.job.Job.TheVariants.{Check, Group, Walk, Make}
+use Rattle.hem_words.specs.declared.job.Job.TheVariants.{Check, Group, Walk, Emit, Play, Make}
 use Rattle.hem_words.proofs.Once.{asks_once}
 use Rattle.hem_cli.specs.Texts.{setup_text, grouped_text, walked_text}
 use Rattle.hem_cli.specs.Refusals.{IsRefused, IsUnlawful, IsUnready, IsReady, IsReplyTo}
@@ -32,25 +30,17 @@ use Rattle.hem_tree.specs.declared.setup.SetupFault.{SetupFault}
 use Rattle.hem_cli.specs.Summary.{summary_text}
 use Rattle.hem_cli.specs.Making.{made_text}
 use Rattle.hem_cli.specs.Walking.{IsWalked, IsSummed, IsOverfull, IsGenerated, IsWalkOf}
+use Rattle.hem_cli.specs.Emitting.{IsEmitReply}
+use Rattle.hem_cli.specs.Playing.{IsPlayReply}
 use Rattle.hem_cli.specs.Answer.{Answer, IsAccepted, IsVerdict, IsGroupReply, IsWalkReply, IsMakeReply, IsJobAnswer, most_bytes}
 use Rattle.hem_cli.specs.declared.status.Status.{Status}
 use Rattle.hem_cli.specs.declared.status.Status.TheVariants.{Done, Usage, TooLong, Refused, Setup, Illegal}
 use Rattle.hem_cli.proofs.Endings.{replay_once}
 use Rattle.hem_cli.proofs.Ways.{IsOnce, status_once, either_once, answered_once}
+use Rattle.hem_cli.proofs.RefusedOnce.{refused_once, refused_excludes}
 use Rattle.hem_cli.proofs.WalkOnce.{walk_once}
-
--- a protocol has one first broken rule, and none where it is disciplined
-broken_once : (o : Option Broken) (a b : Broken) → o ≡ Some a → o ≡ Some b → a ≡ b
-broken_once o a b one other = cc
-
-broken_or_not : (o : Option Broken) (a : Broken) → o ≡ Some a → o ≡ None → ⊥
-broken_or_not o a one other = cc
-
-refused_once : (p : Protocol) (x y : List ℕ) → IsRefused p x → IsRefused p y → x ≡ y
-refused_once d x y p q = p.says ∙ (ap (λ b. refusal_text (refusal_of d b)) (broken_once (first_broken d) p.broken q.broken p.first q.first) ∙ sym q.says)
-
-refused_excludes : (p : Protocol) (x : List ℕ) → IsRefused p x → IsDisciplined p → ⊥
-refused_excludes d x p disciplined = broken_or_not (first_broken d) p.broken p.first ((exact d).1 disciplined)
+use Rattle.hem_cli.proofs.EmitOnce.{emit_once}
+use Rattle.hem_cli.proofs.PlayOnce.{play_once}
 
 -- a protocol has one verdict
 verdict_once : (p : Protocol) → IsOnce (IsVerdict p)
@@ -151,12 +141,14 @@ job_once : (job : Job) (bytes : List ℕ) → IsOnce (IsJobAnswer job bytes)
 job_once Check bytes = answered_once (IsProtocolDocument bytes) (IsProtocolDocumentFault bytes) IsVerdict (protocol_exact bytes) verdict_once
 job_once Group bytes = answered_once (IsDocument bytes) (IsDocumentFault bytes) IsGroupReply (document_exact bytes) group_once
 job_once (Walk count seed) bytes = answered_once (IsWorkDocument bytes) (IsWorkDocumentFault bytes) (IsWalkReply count seed) (work_exact bytes) (walk_reply_once count seed)
+job_once Emit bytes = answered_once (IsTreeDocument bytes) (IsTreeDocumentFault bytes) IsEmitReply (tree_exact bytes) emit_once
+job_once (Play most) bytes = answered_once (IsPlayDocument bytes) (IsPlayDocumentFault bytes) (IsPlayReply most) (play_exact bytes) (play_once most)
 job_once (Make count seed) bytes = answered_once (IsWorkDocument bytes) (IsWorkDocumentFault bytes) (IsMakeReply bytes count seed) (work_exact bytes) (make_once bytes count seed)
 
 -- an answer is to words that aren't good, to too many bytes, or that of a job
 abbrev IsOne : List (List ℕ) → List ℕ → Status → List ℕ → Type 0
 IsOne words bytes a x =
-    ((a ≡ Usage) × (¬ IsGood words) × (x ≡ codes "usage: hem check|group|walk|make [--count N] [--seed N]\n"))
+    ((a ≡ Usage) × (¬ IsGood words) × (x ≡ codes "usage: hem check|group|walk|emit|play|make [--count N] [--seed N]\n"))
     ⊎ (((a ≡ TooLong) × IsGood words × (most_bytes < length bytes) × (x ≡ codes "too long\n"))
     ⊎ ((job : Job) × AsksFor words job × (length bytes ≤ most_bytes) × IsJobAnswer job bytes a x))
 

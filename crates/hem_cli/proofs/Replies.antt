@@ -10,12 +10,14 @@ use Rattle.hem_check.specs.Discipline.{first_broken}
 use Rattle.hem_check.specs.Refused.{refusal_of}
 use Rattle.hem_check.specs.declared.refusal.Refusal.{Refusal}
 use Rattle.hem_report.specs.RefusalText.{refusal_text}
+use Rattle.hem_document.specs.declared.documents.TreeDocument.{TreeDocument}
+use Rattle.hem_document.specs.declared.documents.PlayDocument.{PlayDocument}
 use Rattle.hem_document.specs.declared.documents.WorkDocument.{WorkDocument}
 use Rattle.hem_document.specs.declared.documents.Document.{Document}
 use Rattle.hem_document.specs.SetUp.{document_of, tree_in, work_in}
 use Rattle.hem_words.specs.Job.{AsksFor}
 use Rattle.hem_words.specs.declared.job.Job.{Job}
-use Rattle.hem_words.specs.declared.job.Job.TheVariants.{Check, Group, Walk, Make}
+use Rattle.hem_words.specs.declared.job.Job.TheVariants.{Check, Group, Walk, Emit, Play, Make}
 use Rattle.hem_cli.specs.Texts.{fault_text, walked_text}
 use Rattle.hem_system.specs.State.{State, Runs, start}
 use Rattle.hem_trace.specs.Blocks.{Block, IsSerial, SameFirings, firings_of}
@@ -32,6 +34,8 @@ use Rattle.hem_work.specs.Lawful.{IsLawfulWork}
 use Rattle.hem_work.specs.Made.{made, made_fault}
 use Rattle.hem_cli.specs.Making.{made_text}
 use Rattle.hem_cli.specs.Walking.{IsWalked, IsSummed, IsGenerated, IsWalkOf}
+use Rattle.hem_cli.specs.Emitting.{IsEmitReply}
+use Rattle.hem_cli.specs.Playing.{IsPlayReply}
 use Rattle.hem_cli.specs.Answer.{Answer, IsVerdict, IsGroupReply, IsWalkReply, IsMakeReply, IsJobAnswer, most_bytes}
 use Rattle.hem_cli.specs.Outcome.{IsAfterReading}
 use Rattle.hem_cli.specs.declared.preparing.Ready.{Ready}
@@ -102,6 +106,14 @@ make_after bytes count seed d a x =
     let M : Work → List ℕ → Type 0 = λ w y. y ≡ made_text bytes d.protocol (tree_in d) w in
     reply_to_after d (IsGenerated d.protocol (tree_in d) (work_in d) count seed M) a x (generated_after d.protocol (tree_in d) (work_in d) count seed M a x)
 
+emit_after : (d : TreeDocument) (a : Status) (x : List ℕ) → IsEmitReply d a x → IsAfterReading a
+emit_after d a x (inl it) = subst IsAfterReading (sym it.0) tt
+emit_after d a x (inr (_, inl it)) = subst IsAfterReading (sym it.0) tt
+emit_after d a x (inr (_, inr it)) = subst IsAfterReading (sym it.0) tt
+
+play_after : (most : ℕ) (d : PlayDocument) (a : Status) (x : List ℕ) → IsPlayReply most d a x → IsAfterReading a
+play_after most d a x it = subst IsAfterReading (sym it.0) tt
+
 answer_after : {D : Type 0} (F : TextFault → Type 0) (R : D → Type 0) (reply : D → Status → List ℕ → Type 0) → ((d : D) (a : Status) (x : List ℕ) → reply d a x → IsAfterReading a)
     → (a : Status) (x : List ℕ) → IsAnswerTo F R reply a x → IsAfterReading a
 answer_after F R reply after a x (inl it) = subst IsAfterReading (sym it.0) tt
@@ -111,6 +123,8 @@ pub job_after : (job : Job) (bytes : List ℕ) (status : Status) (text : List �
 job_after Check bytes = answer_after _ _ IsVerdict verdict_after
 job_after Group bytes = answer_after _ _ IsGroupReply group_after
 job_after (Walk count seed) bytes = answer_after _ _ (IsWalkReply count seed) (walk_after count seed)
+job_after Emit bytes = answer_after _ _ IsEmitReply emit_after
+job_after (Play most) bytes = answer_after _ _ (IsPlayReply most) (play_after most)
 job_after (Make count seed) bytes = answer_after _ _ (IsMakeReply bytes count seed) (make_after bytes count seed)
 
 -- a job's reply comes once all is read

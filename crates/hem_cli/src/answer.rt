@@ -10,8 +10,10 @@ ghost use Rattle.hem_cli.specs.declared.status.Status.{Status};
 
 use crate::Status;
 use crate::checking::checked;
+use crate::emitting::emit_from;
 use crate::grouping::grouped;
 use crate::making::make;
+use crate::playing::play_from;
 use crate::reply::{Reply, reply_of};
 use crate::walking::walk_from;
 use hem_base::{OutOfMemory, Source};
@@ -23,7 +25,7 @@ use std::thread::Threads;
 /// The most bytes of input.
 pub(crate) const MOST_BYTES: usize = 33_554_432;
 
-const USAGE: &str = "usage: hem check|group|walk|make [--count N] [--seed N]\n";
+const USAGE: &str = "usage: hem check|group|walk|emit|play|make [--count N] [--seed N]\n";
 
 /// The answer of a job to a whole input.
 fn job_reply<R: Threads + Sync>(
@@ -40,6 +42,8 @@ fn job_reply<R: Threads + Sync>(
         Job::Check => checked(alloc, bytes),
         Job::Group => grouped(rt, alloc, bytes),
         Job::Walk { count, seed } => walk_from(rt, alloc, count, seed, bytes),
+        Job::Emit => emit_from(alloc, bytes),
+        Job::Play { most } => play_from(alloc, most, bytes),
         Job::Make { count, seed } => make(alloc, count, seed, bytes),
     }
 }

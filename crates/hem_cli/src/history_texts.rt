@@ -6,7 +6,10 @@ ghost use Rattle.hem_report.specs.StateText.{state_text};
 ghost use Rattle.hem_cli.specs.Texts.{grouped_text, walked_text};
 
 use hem_base::{Firing, OutOfMemory};
-use hem_report::{blocks_text, end_word_text, illegal_text, journal_text, state_text, word_text};
+use hem_report::{
+    blocks_text, blocks_text_behind, end_word_text, illegal_text, journal_text, state_text,
+    word_text,
+};
 use hem_syntax::Protocol;
 use hem_system::System;
 use hem_trace::Block;
@@ -23,9 +26,7 @@ pub(crate) fn grouped_text(
 ) -> Result<String, OutOfMemory>
     ensures { IfOk result (λ s. string_bytes s ≡ grouped_text p.now tree.now blocks.now end.now) }
 {
-    let mut text = String::from_str(alloc, word_text(end))?;
-    let blocks = blocks_text(alloc, p, blocks)?;
-    text.push_str(&blocks)?;
+    let mut text = blocks_text_behind(alloc, word_text(end), p, blocks)?;
     let state = state_text(alloc, p, tree, end)?;
     text.push_str(&state)?;
     Ok(text)
