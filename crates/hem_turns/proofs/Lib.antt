@@ -1,4 +1,4 @@
-mod Chosen
-mod TakenThere
-mod Ready
-mod Along
+pub mod Chosen
+pub mod TakenThere
+pub mod Ready
+pub mod Along

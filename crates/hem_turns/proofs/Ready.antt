@@ -71,7 +71,7 @@ all-open set i (x ∷ looks) (suc j) look all has at =
     let e : i + suc j ≡ (i + 1) + j = omega arith in
     all-open set (i + 1) looks j look (both (not (has_bit set i) || x.is_open) _ all).1 (rw e at has) at
 
-goes-up-open : (ends : Ends) (t : To) → may_send (look_of ends) t ≡ true → goes_up_request t ≡ true → option_map_or (λ (giving : Giving). giving.reserved) ends.up_requests false ≡ true
+pub goes-up-open : (ends : Ends) (t : To) → may_send (look_of ends) t ≡ true → goes_up_request t ≡ true → option_map_or (λ (giving : Giving). giving.reserved) ends.up_requests false ≡ true
 goes-up-open ends to.UpRequest sends goes = sends
 goes-up-open ends to.Nobody sends goes = cc
 goes-up-open ends to.Answer sends goes = cc
@@ -79,7 +79,7 @@ goes-up-open ends to.UpResponse sends goes = cc
 goes-up-open ends (to.Kid place) sends goes = cc
 goes-up-open ends (to.Kids set) sends goes = cc
 
-answers-up-open : (ends : Ends) (t : To) → may_send (look_of ends) t ≡ true → goes_up_response t ≡ true → option_map_or (λ (giving : Giving). giving.reserved) ends.up_responses false ≡ true
+pub answers-up-open : (ends : Ends) (t : To) → may_send (look_of ends) t ≡ true → goes_up_response t ≡ true → option_map_or (λ (giving : Giving). giving.reserved) ends.up_responses false ≡ true
 answers-up-open ends to.UpResponse sends goes = sends
 answers-up-open ends to.Nobody sends goes = cc
 answers-up-open ends to.Answer sends goes = cc

@@ -1,0 +1,11 @@
+mod EndsKept
+mod Named
+mod Waiting
+mod Fired
+mod Lengthened
+mod SoFar
+mod RoundsRun
+mod Rooms
+mod Settled
+mod ChannelsKept
+mod Stuck

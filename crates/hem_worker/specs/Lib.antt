@@ -1,0 +1,6 @@
+pub mod LineParts
+pub mod Workers
+pub mod Rounds
+pub mod Edges
+pub mod Settling
+pub mod Hindered
