@@ -5,8 +5,8 @@
 The answers are those of the reference, and those of the program where one is given. An example's first line may name the
 words that it is run by, as `# hem walk --seed 3`; every other is run by the word `group`. The index `examples/README.md`
 names each example, its status and its first line; `NAME.out` has the text. Also checked: the texts of the shipped protocols,
-the rules and answers that `docs/DISCIPLINE.md` shows, the answers that `docs/LANGUAGE.md` shows, and what `docs/EXPLAIN.md`
-shows of `tools/explain`.
+the rules and answers that `docs/DISCIPLINE.md` shows, the answers that `docs/LANGUAGE.md` and `docs/MODULES.md` show,
+and what `docs/EXPLAIN.md` shows of `tools/explain`.
 """
 import glob
 import os
@@ -47,12 +47,12 @@ def rows():
 
 
 def of_program(path):
-    """What answers an example: the reference, or a program."""
+    """What answers a document by some words: the reference, or a program."""
     if path is None:
-        return lambda document: reference.answer(words.of_document(document), document.encode('latin-1'))
+        return lambda given, document: reference.answer(given, document.encode('latin-1'))
 
-    def answer(document):
-        ran = subprocess.run([path] + words.of_document(document), input=document.encode('latin-1'), stdout=subprocess.PIPE)
+    def answer(given, document):
+        ran = subprocess.run([path] + given, input=document.encode('latin-1'), stdout=subprocess.PIPE)
         return ran.returncode, ran.stdout.decode('latin-1')
     return answer
 
@@ -62,7 +62,8 @@ def wrong_answers(answer):
     index = rows()
     for name in names_below('examples'):
         recorded = text_of('examples', name[:-len('.hem')] + '.out')
-        status, text = answer(text_of('examples', name))
+        document = text_of('examples', name)
+        status, text = answer(words.of_document(document), document)
         if index.get(name) != (status, text.split('\n')[0]) or text != recorded:
             yield 'examples/' + name
     for name in index:
@@ -100,6 +101,17 @@ def wrong_in_language():
             yield 'docs/LANGUAGE.md: the answer to examples/%s.hem' % name
 
 
+def wrong_in_modules(answer):
+    """The commands of `docs/MODULES.md` to which another answer is shown there."""
+    form = r"^\$ \./hem ([^\n]*) <<'END'\n(.*?)^END\n(.*?)^```$"
+    shown = re.findall(form, text_of('docs', 'MODULES.md'), re.M | re.S)
+    for given, document, text in shown:
+        if answer(given.split(' '), document)[1] != text:
+            yield 'docs/MODULES.md: hem %s < %s ..' % (given, document.split('\n')[0])
+    if not shown:
+        yield 'docs/MODULES.md shows no answer'
+
+
 def wrong_explanations(path):
     """The files of which `docs/EXPLAIN.md` shows another explanation than `tools/explain` gives."""
     shown = re.findall(r'^```\n\$ (tools/explain (\S+))\n(.*?)^```$', text_of('docs', 'EXPLAIN.md'), re.M | re.S)
@@ -114,9 +126,10 @@ def wrong_explanations(path):
 def main():
     path = os.path.abspath(sys.argv[1]) if len(sys.argv) > 1 else None
     wrong = list(wrong_answers(of_program(None))) + list(wrong_protocols()) + list(wrong_in_discipline())
-    wrong += list(wrong_in_language())
+    wrong += list(wrong_in_language()) + list(wrong_in_modules(of_program(None)))
     if path is not None:
         wrong += ['%s, by the program' % name for name in wrong_answers(of_program(path))]
+        wrong += ['%s, by the program' % name for name in wrong_in_modules(of_program(path))]
         wrong += wrong_explanations(path)
     wrong += list(wrong_charts())
     for line in wrong:

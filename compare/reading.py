@@ -383,6 +383,12 @@ class Reader:
         self.step(Choice('end'))
         return protocol
 
+    def protocol_and_tree(self):
+        protocol = self.protocol()
+        nodes = self.tree()
+        self.step(Choice('end'))
+        return protocol, nodes
+
     def setup(self):
         protocol = self.protocol()
         nodes = self.tree()

@@ -3,6 +3,8 @@
     python3 reference.py check < DOCUMENT
     python3 reference.py group < DOCUMENT
     python3 reference.py walk [--count N] [--seed N] < DOCUMENT
+    python3 reference.py emit < DOCUMENT
+    python3 reference.py play [--count N] < DOCUMENT
     python3 reference.py make --count N [--seed N] < DOCUMENT
 
 `answer(words, data)` gives the status and the text for any words and bytes. It shares
@@ -10,7 +12,9 @@ nothing with the program: it is there to be compared with it.
 """
 import sys
 
+import emitting
 import grouping
+import playing
 import walking
 import words
 import writing
@@ -92,7 +96,21 @@ def make(text, asked):
     return 0, lines + [writing.tree_line(nodes)] + writing.work_lines(work)
 
 
-JOBS = {'check': check, 'group': group, 'walk': walk, 'make': make}
+def emit(text, asked):
+    protocol, nodes = Reader(text).protocol_and_tree()
+    refuse_undisciplined(protocol)
+    check_tree(nodes)
+    return 0, emitting.modules_lines(emitting.modules_of(protocol, nodes))
+
+
+def play(text, asked):
+    modules, items = playing.ModuleReader(text).play_document()
+    state = playing.start(modules, items)
+    played = playing.play(modules, state, playing.DEFAULT_COUNT if asked.count is None else asked.count)
+    return 0, playing.play_lines(modules, state, played)
+
+
+JOBS = {'check': check, 'group': group, 'walk': walk, 'emit': emit, 'play': play, 'make': make}
 
 
 def verdict(asked, text):

@@ -15,6 +15,7 @@ import tempfile
 import time
 
 import make
+import modules
 import reference
 import texts
 
@@ -95,10 +96,11 @@ def kept(keep, kind, seed, worker, place, document, expected, got):
 def word_lists():
     """Lists of words: of a job alone, with options that are good and not, and with what isn't of the language."""
     yield from [[], ['group'], ['check'], ['walk'], ['make'], ['group', 'group'], ['check', 'group'], ['check', 'check'],
-                ['frob'], ['--json'], ['group', '--json'], ['walk', '--json'], ['run'], ['emit'], ['play'], ['group', ''],
+                ['emit'], ['play'], ['emit', 'play'],
+                ['frob'], ['--json'], ['group', '--json'], ['walk', '--json'], ['run'], ['group', ''],
                 [''], ['Group'], ['group '], ['--', 'group'], ['group', '--'], ['--', '--'], ['--', 'group', '--'], ['-'],
                 ['Check'], ['check|group'], ['watch'], ['mux'], ['migrate'], ['help'], ['--help'], ['-h'], ['--version']]
-    for job in ('check', 'group', 'walk', 'make'):
+    for job in ('check', 'group', 'walk', 'emit', 'play', 'make'):
         for options in (['--count', '1'], ['--seed', '1'], ['--seed', '1', '--count', '1'], ['--count=1', '--seed=1']):
             yield [job] + options
             yield options + [job]
@@ -110,7 +112,8 @@ def word_lists():
                    '18446744073709551616', '99999999999999999999', '', ' 1', '1 ', '-1', '+1', '1.0', '0x1', '1e2', 'one',
                    '\u0661', '--', '-', '=', '==1', '--seed', '--count', 'walk'):
         for words in (['walk', '--count', number], ['walk', '--count=' + number], ['walk', '--seed', number],
-                      ['--seed=' + number, 'walk'], ['make', '--count', number], ['make', '--seed', number, '--count', '2']):
+                      ['--seed=' + number, 'walk'], ['make', '--count', number], ['make', '--seed', number, '--count', '2'],
+                      ['play', '--count', number], ['play', '--seed', number], ['emit', '--count=' + number]):
             yield words
     yield from [['walk', '--count'], ['walk', '--seed'], ['--count', 'walk'], ['make', '--seed', '3'],
                 ['walk', '--cou', '3'], ['walk', '-c', '3'], ['walk', '-count', '3'], ['walk', '--Count', '3'],
@@ -132,9 +135,12 @@ def words_differ(path):
 
 
 def words_document(words):
-    """The small document: with its history, but for the jobs that make their own."""
-    has_history = 'walk' not in words and 'make' not in words
-    return texts.data(texts.SMALL if has_history else texts.SMALL[:texts.SMALL.index('history')])
+    """A small document of the job among the words: with a history, but for the jobs that make their own."""
+    if 'play' in words:
+        return texts.data(modules.TINY)
+    ends = {'walk': 'history', 'make': 'history', 'emit': 'work'}
+    end = next((ends[word] for word in words if word in ends), None)
+    return texts.data(texts.SMALL if end is None else texts.SMALL[:texts.SMALL.index(end)])
 
 
 def main():

@@ -2,17 +2,17 @@
 import re
 from collections import namedtuple
 
-USAGE = 'usage: hem check|group|walk|make [--count N] [--seed N]'
-JOBS = ('check', 'group', 'walk', 'make')
+JOBS = ('check', 'group', 'walk', 'emit', 'play', 'make')
+USAGE = 'usage: hem %s [--count N] [--seed N]' % '|'.join(JOBS)
 OPTIONS = ('--count', '--seed')
 COUNT_LIMIT = 100000
 GREATEST_SEED = 18446744073709551615
 FIRST_SEED = 1
 # The jobs that take each option, and those that want it.
-TAKEN_BY = {'--count': ('walk', 'make'), '--seed': ('walk', 'make')}
+TAKEN_BY = {'--count': ('walk', 'play', 'make'), '--seed': ('walk', 'make')}
 WANTED_BY = {'--count': ('make',), '--seed': ()}
 
-# A job with the number of generated requests, or None, and the seed.
+# A job with the number of generated requests or of firings to play, or None, and the seed.
 Asked = namedtuple('Asked', 'job count seed')
 
 
