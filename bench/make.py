@@ -16,13 +16,25 @@ and for the jobs `walk` and `make`, without a history:
     python3 bench/make.py misses N      N requests on that tree: stores and loads in turn, at each leaf on each line; the
                                         leaves answer their parent first, so that mostly another leaf has the line
     python3 bench/make.py idle N        inclusive MSI, 64 objects and 16 lines, N requests of one leaf on one line
+
+and for the jobs `emit` and `play`:
+
+    python3 bench/make.py tree NAME     the shipped protocol of this name on 64 objects
+    python3 bench/make.py widest        rules with conditions on all other children, on 64 objects: 24 MB of modules
+    python3 bench/make.py hits N        the modules of inclusive MSI on 21 objects, and a feed of N requests of its leaves,
+                                        stores and loads in turn: most of them hit
+    python3 bench/make.py trips N       the same, of a protocol without hits: each request goes up and comes back
+    python3 bench/make.py again N       N bytes of module rules: those of that system, again and again under other numbers
 """
+import itertools
 import os
 import sys
 
 sys.path.insert(0, os.path.join(os.path.dirname(os.path.dirname(os.path.abspath(__file__))), 'compare'))
 sys.dont_write_bytecode = True
 
+import emitting
+from reading import Reader
 from shipped import SHIPPED
 
 ONE_STEP = """protocol cells
@@ -263,13 +275,83 @@ def idle(count):
     yield 'work lines 16 self 0\nat 2 line 0%s\nend\n' % ''.join(' St 1' if k % 2 else ' Ld 0' for k in range(count))
 
 
+MOST_OBJECTS = 'tree root(%s)\n' % ' '.join(['mid(%s)' % ' '.join(['leaf'] * 8)] * 7)
+MIDDLE_SIZE = 'tree root(%s)\n' % ' '.join(['mid(leaf leaf leaf leaf)'] * 4)
+
+
+def tree(name):
+    """A shipped protocol on the most objects."""
+    yield 'use %s\n' % name + MOST_OBJECTS
+
+
+WIDE_RULE = ('rule r%%d take kids UpRsp need up any down child when %s set val := rs, targets := A, me := B free down '
+             'send me DownRsp rs end\n') % ', '.join(['others any A B C D'] * 16)
+
+
+def widest():
+    """Roots and mids with as many conditions as there can be on all children but one that isn't known beforehand."""
+    yield 'protocol widest\nstatus A B C D\nmessage UpRsp up_rsp\nmessage DownRsp down_rsp\n'
+    for kind in ('root', 'mid'):
+        yield 'kind %s dir init A\n' % kind + ''.join(WIDE_RULE % k for k in range(64)) + 'end\n'
+    yield 'kind leaf end\nend\n' + MOST_OBJECTS
+
+
+def modules_of(protocol_text):
+    """The modules of a protocol on 21 objects."""
+    return emitting.modules_of(*Reader(protocol_text + MIDDLE_SIZE).protocol_and_tree())
+
+
+def with_requests(modules, count):
+    """The text of modules, and a feed of stores and loads in turn at each leaf."""
+    yield '\n'.join(emitting.modules_lines(modules)) + '\nfeed\n'
+    lists = [queue for queue in modules.queues if queue.startswith('xr_')]
+    for k in range(count):
+        place = k // len(lists)
+        yield '%s %s\n' % (lists[k % len(lists)], '0 0' if place % 2 else '1 %d' % k)
+    yield 'end\n'
+
+
+def hits(count):
+    """Requests that a leaf mostly serves by itself."""
+    yield from with_requests(modules_of(SHIPPED['msi_inclusive']), count)
+
+
+def trips(count):
+    """Requests that each go up: leaves have no hits, and ask for what they have."""
+    lines = [line for line in SHIPPED['msi_inclusive'].split('\n') if not line.startswith(('rule ld_hit', 'rule st_hit'))]
+    text = '\n'.join(lines)
+    for name, statuses in (('ld_miss', 'I'), ('st_miss', 'I S')):
+        start = text.index('rule %s ' % name)
+        text = text[:start] + text[start:].replace(' when st in %s' % statuses, '', 1)
+    yield from with_requests(modules_of(text), count)
+
+
+def again(size):
+    """The rules of a system, repeated under other numbers of objects up to so many bytes."""
+    modules = modules_of(SHIPPED['msi_inclusive'])
+    lines = emitting.modules_lines(modules._replace(rules=[]))
+    yield '\n'.join(lines[:-1]) + '\n'
+    made, objects = 0, 1 + max(rule.object for rule in modules.rules)
+    for more in itertools.count(0, objects):
+        text = ''.join(emitting.rule_text(rule._replace(object=rule.object + more)) + '\n' for rule in modules.rules)
+        made += len(text)
+        if made > size:
+            break
+        yield text
+    yield 'end\nfeed end\n'
+
+
 def main(words):
     makers = {'one-step': one_step, 'rounds': rounds, 'stores': stores, 'entries': entries, 'comments': comments,
-              'signs': signs, 'alone': alone, 'misses': misses, 'idle': idle}
+              'signs': signs, 'alone': alone, 'misses': misses, 'idle': idle, 'hits': hits, 'trips': trips, 'again': again}
     if words == ['protocol']:
         pieces = greatest_protocol()
     elif words == ['load']:
         pieces = load()
+    elif words == ['widest']:
+        pieces = widest()
+    elif len(words) == 2 and words[0] == 'tree' and words[1] in SHIPPED:
+        pieces = tree(words[1])
     elif len(words) == 2 and words[0] in makers and words[1].isdigit():
         pieces = makers[words[0]](int(words[1]))
     else:

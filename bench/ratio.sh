@@ -42,3 +42,8 @@ for size in 9999 99999; do measure_by 'walk --count 1' misses "$size"; done
 for size in 9999 99999; do measure_by 'walk --count 1' idle "$size"; done
 for size in 10000 100000; do measure_by walk misses "$size"; done
 for count in 10000 100000; do measure_by "make --count $count" load; done
+for name in msi_inclusive mesi_inclusive msi_noninclusive mesi_noninclusive; do measure_by emit tree "$name"; done
+measure_by emit widest
+for count in 10000 100000; do measure_by play hits "$count"; done
+for count in 3400 34000; do measure_by play trips "$count"; done
+for size in 3000000 30000000; do measure_by play again "$size"; done

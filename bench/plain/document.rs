@@ -120,11 +120,7 @@ fn read_entry<'a>(tokens: &mut Tokens<'a>, protocol: &Protocol) -> Result<(Entry
             return Err(token.expected());
         }
         let message = protocol.message(token.text).ok_or_else(|| token.unknown())?;
-        let number = tokens.next();
-        if number.kind != TokenKind::Number {
-            return Err(number.expected());
-        }
-        let value = number.value().ok_or_else(|| number.fault("too many"))?;
+        let value = tokens.value()?;
         requests.push(Request { message, value, start: token.start });
     };
     Ok((Entry { object, object_start, line, line_start, requests }, another))
@@ -175,35 +171,42 @@ pub fn read_document(bytes: &[u8], has_history: bool) -> Result<Document, Fault>
     let nodes = read_tree(&mut tokens)?;
     let work = read_work(&mut tokens, &protocol)?;
     let history = if has_history { read_history(&mut tokens, &protocol)? } else { Vec::new() };
-    let token = tokens.next();
-    if token.kind != TokenKind::End {
-        return Err(token.expected());
-    }
+    tokens.end()?;
     Ok(Document { protocol, nodes, work, history })
+}
+
+/// Reads a protocol and a tree, and nothing after them.
+pub fn read_protocol_and_tree(bytes: &[u8]) -> Result<(Protocol, Vec<Node>), Fault> {
+    let mut tokens = Tokens::new(bytes);
+    let protocol = Protocol::read(&mut tokens)?;
+    let nodes = read_tree(&mut tokens)?;
+    tokens.end()?;
+    Ok((protocol, nodes))
 }
 
 fn ensure(holds: bool, start: usize, cause: &'static str) -> Result<(), SetupFault> {
     if holds { Ok(()) } else { Err(SetupFault { start, cause }) }
 }
 
+/// Tries the rules on trees, in order.
+pub fn check_tree(nodes: &[Node]) -> Result<(), SetupFault> {
+    let mut children = vec![0; nodes.len()];
+    for (place, node) in nodes.iter().enumerate() {
+        ensure(place < MOST_OBJECTS, node.start, "objects")?;
+        if let Some(parent) = node.parent {
+            children[parent] += 1;
+            ensure(children[parent] <= MOST_CHILDREN, node.start, "children")?;
+        }
+        ensure(node.level <= MOST_LEVELS, node.start, "levels")?;
+    }
+    Ok(())
+}
+
 impl Document {
     /// Tries the rules on trees and works, in order.
     pub fn check(&self) -> Result<(), SetupFault> {
-        self.check_tree()?;
+        check_tree(&self.nodes)?;
         self.check_work()
-    }
-
-    fn check_tree(&self) -> Result<(), SetupFault> {
-        let mut children = vec![0; self.nodes.len()];
-        for (place, node) in self.nodes.iter().enumerate() {
-            ensure(place < MOST_OBJECTS, node.start, "objects")?;
-            if let Some(parent) = node.parent {
-                children[parent] += 1;
-                ensure(children[parent] <= MOST_CHILDREN, node.start, "children")?;
-            }
-            ensure(node.level <= MOST_LEVELS, node.start, "levels")?;
-        }
-        Ok(())
     }
 
     fn check_work(&self) -> Result<(), SetupFault> {

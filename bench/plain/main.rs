@@ -1,13 +1,18 @@
-//! The jobs `group`, `walk` and `make` as a plain Rust program does them, to measure `hem` by: nothing is proved here.
+//! The jobs `group`, `walk`, `emit`, `play` and `make` as a plain Rust program does them, to measure `hem` by: nothing is
+//! proved here.
 //!
 //! It answers every document as `hem` does, with the same text and status. With the last word `--times` it tells on
 //! standard error how long each of its stages took.
 
+mod bits;
 mod canonical;
 mod discipline;
 mod document;
 mod draws;
+mod emit;
+mod modtext;
 mod order;
+mod play;
 mod protocol;
 mod report;
 mod system;
@@ -15,7 +20,7 @@ mod text;
 mod walk;
 mod words;
 
-use document::{Document, SetupFault, read_document};
+use document::{Document, SetupFault, check_tree, read_document, read_protocol_and_tree};
 use order::Transactions;
 use std::io::{Read, Write};
 use std::process::ExitCode;
@@ -25,6 +30,8 @@ use text::{Fault, Tokens, place_of};
 use words::{Asked, Job};
 
 const MOST_BYTES: usize = 33_554_432;
+/// How many firings are played where no count is given.
+const MOST_PLAYED: u32 = 100_000;
 
 /// Tells how long each stage takes, where that is wanted.
 struct Watch {
@@ -50,32 +57,70 @@ fn setup_fault(bytes: &[u8], fault: SetupFault) -> (u8, String) {
     (7, format!("setup {line}:{column} {}\n", fault.cause))
 }
 
+fn text_fault(bytes: &[u8], fault: Fault) -> (u8, String) {
+    let (line, column) = place_of(bytes, fault.start);
+    (5, format!("text {line}:{column} {}\n", fault.cause))
+}
+
 /// The status and the text for the bytes of a document.
 fn of_document(asked: Asked, bytes: &[u8], watch: &mut Watch) -> (u8, String) {
-    let mut document = match read_document(bytes, asked.job == Job::Group) {
-        Ok(document) => document,
-        Err(Fault { start, cause }) => {
-            let (line, column) = place_of(bytes, start);
-            return (5, format!("text {line}:{column} {cause}\n"));
-        }
+    let answer = match asked.job {
+        Job::Emit => emit(bytes, watch),
+        Job::Play => play(asked, bytes, watch),
+        Job::Group | Job::Walk | Job::Make => of_work(asked, bytes, watch),
     };
+    answer.unwrap_or_else(|fault| text_fault(bytes, fault))
+}
+
+/// The status and the text of a document with a work.
+fn of_work(asked: Asked, bytes: &[u8], watch: &mut Watch) -> Result<(u8, String), Fault> {
+    let mut document = read_document(bytes, asked.job == Job::Group)?;
     if let Some(refusal) = discipline::first_broken(&document.protocol) {
-        return (6, refusal.text(&document.protocol));
+        return Ok((6, refusal.text(&document.protocol)));
     }
     if let Err(fault) = document.check() {
-        return setup_fault(bytes, fault);
+        return Ok(setup_fault(bytes, fault));
     }
     if let Some(count) = asked.count
         && let Err(fault) = draws::generate(&mut document, count, asked.seed)
     {
-        return setup_fault(bytes, fault);
+        return Ok(setup_fault(bytes, fault));
     }
     watch.tell("document");
-    match asked.job {
-        Job::Group => replay(&document, watch),
+    Ok(match asked.job {
         Job::Walk => walk(document, asked, watch),
         Job::Make => (0, canonical::document(&document, Tokens::new(bytes).next().is("use"))),
+        _ => replay(&document, watch),
+    })
+}
+
+/// The status and the text of the modules of a protocol on a tree.
+fn emit(bytes: &[u8], watch: &mut Watch) -> Result<(u8, String), Fault> {
+    let (protocol, nodes) = read_protocol_and_tree(bytes)?;
+    if let Some(refusal) = discipline::first_broken(&protocol) {
+        return Ok((6, refusal.text(&protocol)));
     }
+    if let Err(fault) = check_tree(&nodes) {
+        return Ok(setup_fault(bytes, fault));
+    }
+    watch.tell("document");
+    let modules = emit::modules(&protocol, &nodes);
+    watch.tell("modules");
+    let text = modules.text();
+    watch.tell("text");
+    Ok((0, text))
+}
+
+/// The status and the text of a play.
+fn play(asked: Asked, bytes: &[u8], watch: &mut Watch) -> Result<(u8, String), Fault> {
+    let mut tokens = Tokens::new(bytes);
+    let (modules, names) = modtext::read_modules(&mut tokens)?;
+    let feed = modtext::read_feed(&mut tokens, &names)?;
+    tokens.end()?;
+    watch.tell("document");
+    let text = play::play(&modules, &feed, asked.count.unwrap_or(MOST_PLAYED));
+    watch.tell("play");
+    Ok((0, text))
 }
 
 /// The status and the text of the walk of a lawful document.

@@ -140,6 +140,12 @@ impl<'a> Tokens<'a> {
         if token.is(word) { Ok(token) } else { Err(token.expected()) }
     }
 
+    /// Takes the end.
+    pub fn end(&mut self) -> Result<(), Fault> {
+        let token = self.next();
+        if token.kind == TokenKind::End { Ok(()) } else { Err(token.expected()) }
+    }
+
     /// Takes one of these reserved words, and answers its value.
     pub fn one_of<T: Copy>(&mut self, words: &[(&str, T)]) -> Result<T, Fault> {
         let token = self.next();
@@ -173,6 +179,15 @@ impl<'a> Tokens<'a> {
     pub fn number(&mut self) -> Result<(u32, usize), Fault> {
         let token = self.next();
         Ok((number(token)?, token.start))
+    }
+
+    /// Takes a number of at most 64 bits.
+    pub fn value(&mut self) -> Result<u64, Fault> {
+        let token = self.next();
+        if token.kind != TokenKind::Number {
+            return Err(token.expected());
+        }
+        token.value().ok_or_else(|| token.fault("too many"))
     }
 }
 

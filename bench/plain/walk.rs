@@ -1,38 +1,10 @@
 //! The walk of a single thread: at each turn the first ready firing from a drawn position on.
 
+use crate::bits::Bits;
 use crate::document::{Document, Firing};
 use crate::draws::Draws;
 use crate::protocol::{Kind, Rule, Take};
 use crate::system::{Fired, Reached, System};
-
-/// A set of positions, as bits.
-struct Positions {
-    words: Vec<u64>,
-}
-
-impl Positions {
-    fn new(count: usize) -> Positions {
-        Positions { words: vec![0; count.div_ceil(64)] }
-    }
-
-    fn set(&mut self, position: usize, is_in: bool) {
-        let bit = 1 << (position % 64);
-        let word = &mut self.words[position / 64];
-        *word = if is_in { *word | bit } else { *word & !bit };
-    }
-
-    /// The first position from this one on, and if there is none, the first of all.
-    fn next_from(&self, position: usize) -> Option<usize> {
-        let word = position / 64;
-        let here = self.words[word] & (u64::MAX << (position % 64));
-        let first = |place: usize, bits: u64| place * 64 + bits.trailing_zeros() as usize;
-        if here != 0 {
-            return Some(first(word, here));
-        }
-        let places = (word + 1..self.words.len()).chain(0..=word);
-        places.map(|place| (place, self.words[place])).find(|(_, bits)| *bits != 0).map(|(place, bits)| first(place, bits))
-    }
-}
 
 /// The rule, by its place, and the child's place of a firing that is ready.
 #[derive(Clone, Copy, Default)]
@@ -50,7 +22,7 @@ pub struct Walk<'a> {
     /// How many firings of rules that take nothing were made at each position.
     self_firings: Vec<u32>,
     ready: Vec<Ready>,
-    positions: Positions,
+    positions: Bits,
 }
 
 impl<'a> Walk<'a> {
@@ -64,7 +36,7 @@ impl<'a> Walk<'a> {
             fired: Vec::new(),
             self_firings: vec![0; count],
             ready: vec![Ready::default(); count],
-            positions: Positions::new(count),
+            positions: Bits::new(count),
         };
         for position in 0..count {
             walk.look(position / objects, position % objects);

@@ -1,16 +1,18 @@
 //! The words after the program's name.
 
-pub const USAGE: &str = "usage: hem check|group|walk|make [--count N] [--seed N]\n";
-const MOST_REQUESTS: u64 = 100_000;
+pub const USAGE: &str = "usage: hem check|group|walk|emit|play|make [--count N] [--seed N]\n";
+const MOST_COUNT: u64 = 100_000;
 
 #[derive(Clone, Copy, PartialEq, Eq)]
 pub enum Job {
     Group,
     Walk,
+    Emit,
+    Play,
     Make,
 }
 
-/// A job, with the number of generated requests and the seed.
+/// A job, with the number of generated requests or of firings to play, and the seed.
 #[derive(Clone, Copy)]
 pub struct Asked {
     pub job: Job,
@@ -53,10 +55,12 @@ pub fn read(words: &[&str]) -> Option<Asked> {
     let job = match job {
         "group" if count.is_none() && seed.is_none() => Job::Group,
         "walk" => Job::Walk,
+        "emit" if count.is_none() && seed.is_none() => Job::Emit,
+        "play" if seed.is_none() => Job::Play,
         "make" if count.is_some() => Job::Make,
         _ => return None,
     };
-    if count.is_some_and(|count| !(1..=MOST_REQUESTS).contains(&count)) {
+    if count.is_some_and(|count| !(1..=MOST_COUNT).contains(&count)) {
         return None;
     }
     Some(Asked { job, count: count.map(|count| count as u32), seed: seed.unwrap_or(1) })
