@@ -1,4 +1,6 @@
 """Goes through a document as its job does, and hands what it finds to the part that tells it."""
+import emitting
+import playing
 import walking
 from discipline import first_broken, template
 from reading import Fault, Reader
@@ -6,7 +8,7 @@ from reference import INPUT_LIMIT
 from setup import check_tree, check_work
 from system import replay, start_state
 
-from explaining import firings, refusals, setup_faults, states, text_faults, walks
+from explaining import firings, plays, refusals, setup_faults, states, text_faults, walks
 
 
 def of_document(asked, document):
@@ -16,27 +18,41 @@ def of_document(asked, document):
         return ['The text has %s bytes, and may have at most %s.' % sizes]
     text = document.decode('latin-1')
     try:
-        if asked.job == 'check':
-            return of_protocol(text)
+        if asked.job in WITHOUT_WORK:
+            return WITHOUT_WORK[asked.job](text, asked)
         return of_history(text) if asked.job == 'group' else of_work(text, asked)
     except Fault as fault:
         return text_faults.told(text, fault)
 
 
-def of_protocol(text):
+def of_protocol(text, asked):
     protocol = Reader(text).protocol_alone()
     refusal = first_broken(protocol)
     return refusals.told(text, protocol, refusal) if refusal else refusals.accepted(protocol, template)
 
 
-def set_up(text, protocol, nodes, work):
+def of_emit(text, asked):
+    protocol, nodes = Reader(text).protocol_and_tree()
+    return set_up(text, protocol, nodes) or plays.emitted(nodes, emitting.modules_of(protocol, nodes))
+
+
+def of_play(text, asked):
+    modules, items = playing.ModuleReader(text).play_document()
+    return plays.played(modules, items, playing.DEFAULT_COUNT if asked.count is None else asked.count)
+
+
+WITHOUT_WORK = {'check': of_protocol, 'emit': of_emit, 'play': of_play}
+
+
+def set_up(text, protocol, nodes, work=None):
     """The lines for a protocol, a tree or a work that is refused, or nothing."""
     refusal = first_broken(protocol)
     if refusal:
         return refusals.told(text, protocol, refusal)
     try:
         check_tree(nodes)
-        check_work(work, protocol, nodes)
+        if work is not None:
+            check_work(work, protocol, nodes)
     except Fault as fault:
         return setup_faults.told(text, fault, protocol, nodes, work)
     return None

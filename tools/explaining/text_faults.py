@@ -7,6 +7,8 @@ from shipped import SHIPPED
 from explaining.phrases import a_or_an, bulleted, listed, marked, quoted
 
 SHOWN = 40
+# What the words of modules declare.
+NOUNS = {'reg': 'a register', 'queue': 'a queue'}
 
 
 def told(text, fault):
@@ -25,9 +27,11 @@ def context(read):
     """In which part of the document the tokens end, as words after a place."""
     inside = []
     for k, token in enumerate(read):
-        if token.text in ('kind', 'rule') and k + 1 < len(read):
-            inside.append('%s `%s`' % (token.text, read[k + 1].text))
-        elif token.text in ('tree', 'work', 'history'):
+        if token.text in ('kind', 'rule', 'modules') and k + 1 < len(read):
+            # The rules of modules have a number before their name.
+            name = read[k + 1:k + 3] if read[k + 1].kind == 'number' else read[k + 1:k + 2]
+            inside.append('%s `%s`' % (token.text, ' '.join(part.text for part in name)))
+        elif token.text in ('tree', 'work', 'history', 'feed'):
             inside = ['the %s' % token.text]
         elif token.text == 'end' and inside:
             inside.pop()
@@ -79,7 +83,9 @@ def past_limit(fault, _):
 
 
 def repeated(fault, _):
-    choice = next(c for c in fault.choices if c.is_of_kind(fault.token) and fault.token.text in c.taken)
+    choice = next((c for c in fault.choices if c.is_of_kind(fault.token) and fault.token.text in c.taken), None)
+    if choice is None:
+        return ['There is a rule of this number and this name already, and with the same child or none (`repeated`).']
     name = fault.token.text
     if choice.kind == 'new':
         also = ' (statuses and messages share one name space)' if choice.what in ('status', 'message') else ''
@@ -144,6 +150,8 @@ def declared(read):
             note(found, then.text, 'a status')
         if token.text == 'message':
             note(found, then.text, 'a message')
+        if token.text in NOUNS:
+            note(found, then.text, NOUNS[token.text])
         if token.text in ('field', 'rule'):
             note(found, then.text, 'a %s of kind %s' % (token.text, kind))
     return found
