@@ -1,6 +1,6 @@
 -- What is read of a line of a state.
 use Rattle.std.proofs.Common.{◌≡◌, refl, ap, sym, ◌∙◌, ℕ, zero, suc, ◌<◌, ◌≤◌, arith, Bool, true, false, List, [], ◌∷◌, length, map, Option, Some, None, Result, Ok, Err, IfOk}
-use Rattle.std.specs.Prelude.{◌==◌, nat_lt, slice_get, slice_index_or, option_map, option_and_then, position}
+use Rattle.std.specs.Prelude.{◌==◌, nat_lt, slice_get, slice_index_or, option_map, option_and_then, position, filter, cond}
 use Rattle.std.specs.List.{position_or_len}
 use Rattle.std.specs.Option.{option_map_or}
 use Rattle.std.proofs.lemmas.Bool.{eqb-true}
@@ -8,7 +8,9 @@ use Rattle.std.proofs.lemmas.Option.{slice_get-map, slice_get_within, slice_get-
 use Rattle.hem_base.specs.declared.ids.ObjectId.{ObjectId}
 use Rattle.hem_base.specs.declared.ids.Message.{Message}
 use Rattle.hem_object.specs.Local.{Local}
-use Rattle.hem_tree.specs.Tree.{Tree, is_number, is_child, parent_of, children_of, place_among}
+use Rattle.hem_tree.specs.Tree.{Tree, Node, IsTree, IsLawful, below, is_number, is_child, parent_of, children_of, place_among}
+use Rattle.hem_tree.proofs.Early.{lawful_early}
+use Rattle.hem_tree.proofs.Lawful.{is_number_true}
 use Rattle.hem_system.specs.declared.lane.Lane.{Lane}
 use Rattle.hem_system.specs.State.{Cell, Line, State, list_of, cell_at, local_at, list_at}
 use Rattle.hem_system.proofs.Kids.{child_at, at_child}
@@ -76,13 +78,29 @@ list_there s l o lane messages less at =
 pub no_list : (line : Line) (o : ℕ) (lane : Lane) → length line ≤ o → [] ≡ list_at line o lane
 no_list line o lane past = sym (ap (λ (cell : Option Cell). option_map_or (λ cell. list_of cell lane) cell []) (slice_get_past line o past))
 
--- an object of a line with all objects of the tree is one of the tree
-pub object_there : (tree : Tree) (line : Line) (o : ℕ) (local : Local) → length line ≡ length tree → Some local ≡ local_at line o → o < length tree
-object_there tree line o local all at = by_cell (slice_get line o) refl at
+-- a parent and its child are objects of the tree, and the parent comes first
+child_within : (tree : Tree) (c o : ℕ) → IsTree tree → is_child tree c o ≡ true → o < length tree
+child_within tree c o law child = by_node (slice_get tree c) refl
   where
-    by_cell : (cell : Option Cell) → slice_get line o ≡ cell → Some local ≡ option_map (λ cell. cell.local) cell → o < length tree
-    by_cell None is at = cc
-    by_cell (Some cell) is at = let less = slice_get_within line o cell is in omega (arith, less, all)
+    above : parent_of tree c ≡ Some o
+    above = is_number_true (parent_of tree c) o child
+
+    by_node : (node : Option Node) → slice_get tree c ≡ node → o < length tree
+    by_node None is = let none : None ≡ Some o = sym (ap (option_and_then (λ (node : Node). node.parent)) is) ∙ above in cc
+    by_node (Some node) is = let before = (lawful_early tree law).early c o above in let within = slice_get_within tree c node is in omega (arith, before, within)
+
+-- where none passes none is left
+none_pass : (test : ℕ → Bool) (xs : List ℕ) → ((k : ℕ) → test k ≡ true → ⊥) → [] ≡ filter test xs
+none_pass test [] none = refl
+none_pass test (x ∷ xs) none = by_first (test x) refl (none_pass test xs none)
+  where
+    by_first : (b : Bool) → test x ≡ b → [] ≡ filter test xs → [] ≡ cond b (x ∷ filter test xs) (filter test xs)
+    by_first true is rest = absurd (none x is)
+    by_first false is rest = rest
+
+-- what is no object of the tree has no children
+pub no_children : (tree : Tree) (o : ℕ) → IsLawful tree → length tree ≤ o → [] ≡ children_of tree o
+no_children tree o lawful past = none_pass (λ k. is_child tree k o) (below (length tree)) (λ k child. let within = child_within tree k o lawful.shape child in omega (arith, within, past))
 
 -- a parent has the child
 pub child_of : (tree : Tree) (c : ℕ) (high : ObjectId) → option_map (λ id. id.0) (Some high) ≡ parent_of tree c → is_child tree c high.0 ≡ true

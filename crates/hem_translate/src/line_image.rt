@@ -100,6 +100,17 @@ fn awaits_number(local: &Local, place: usize) -> u64
     if awaited_of(local).has(place) { 1 } else { 0 }
 }
 
+/// The children of an object, in order; none where the tree has no such object.
+fn children_at(tree: &Tree, o: u32) -> &[ObjectId]
+    ensures { map (λ id. id.0) result.now ≡ children_of tree.now o }
+{
+    if o < tree.objects() {
+        tree.children(ObjectId(o))
+    } else {
+        &[]
+    }
+}
+
 /// The place of an object among these, where it is among them.
 fn place_in(children: &[ObjectId], c: u32) -> Option<usize>
     ensures { result ≡ position (λ id. id.0 == c) children.now }
@@ -109,11 +120,10 @@ fn place_in(children: &[ObjectId], c: u32) -> Option<usize>
 
 /// The place of a child among the children of its parent.
 fn place_among(tree: &Tree, parent: ObjectId, c: u32) -> usize
-    requires there { parent.0 < length tree.now }
-    requires child { is_child tree.now c parent.0 ≡ true }
+    requires { is_child tree.now c parent.0 ≡ true }
     ensures { result ≡ place_among tree.now parent.0 c }
 {
-    place_in(tree.children(parent), c).unwrap_or(0)
+    place_in(children_at(tree, parent.0), c).unwrap_or(0)
 }
 
 /// What an object keeps of a line, where it is there.
@@ -151,36 +161,30 @@ fn value_at(s: &System, line: LineId, o: u32) -> u64
 }
 
 /// A part of an object's uplock on a line, as a number; 0 where the object isn't there or the lock is free.
-#[tactic(auto, using(crate::proofs::OnLine::object_there))]
 fn uplock_at(tree: &Tree, s: &System, line: LineId, part: Part, o: u32) -> u64
-    requires line { line.0 < length s.now }
-    requires objects { length (line_at s.now line.0) ≡ length tree.now }
+    requires { line.0 < length s.now }
     ensures { result ≡ option_map_or (λ local. lock_number (children_of tree.now o) (part_of part) local.up) (local_at (line_at s.now line.0) o) 0 }
 {
     match local_of(s, line, o) {
-        Some(local) => lock_number(tree.children(ObjectId(o)), part, local.up),
+        Some(local) => lock_number(children_at(tree, o), part, local.up),
         None => 0,
     }
 }
 
 /// A part of an object's downlock on a line, as a number; 0 where the object isn't there or the lock is free.
-#[tactic(auto, using(crate::proofs::OnLine::object_there))]
 fn downlock_at(tree: &Tree, s: &System, line: LineId, part: Part, o: u32) -> u64
-    requires line { line.0 < length s.now }
-    requires objects { length (line_at s.now line.0) ≡ length tree.now }
+    requires { line.0 < length s.now }
     ensures { result ≡ option_map_or (λ local. lock_number (children_of tree.now o) (part_of part) local.down) (local_at (line_at s.now line.0) o) 0 }
 {
     match local_of(s, line, o) {
-        Some(local) => lock_number(tree.children(ObjectId(o)), part, local.down),
+        Some(local) => lock_number(children_at(tree, o), part, local.down),
         None => 0,
     }
 }
 
 /// The status of the entry that a parent keeps of its child on a line, as a number; 0 where the parent isn't there.
-#[tactic(auto, using(crate::proofs::OnLine::object_there))]
 fn entry_with(tree: &Tree, s: &System, line: LineId, parent: ObjectId, c: u32) -> u64
     requires line { line.0 < length s.now }
-    requires objects { length (line_at s.now line.0) ≡ length tree.now }
     requires child { is_child tree.now c parent.0 ≡ true }
     ensures { result ≡ option_map_or (λ local. status_number (slice_get local.dir (place_among tree.now parent.0 c))) (local_at (line_at s.now line.0) parent.0) 0 }
 {
@@ -191,10 +195,8 @@ fn entry_with(tree: &Tree, s: &System, line: LineId, parent: ObjectId, c: u32) -
 }
 
 /// Whether a parent awaits its child on a line: 1 or 0.
-#[tactic(auto, using(crate::proofs::OnLine::object_there))]
 fn awaits_with(tree: &Tree, s: &System, line: LineId, parent: ObjectId, c: u32) -> u64
     requires line { line.0 < length s.now }
-    requires objects { length (line_at s.now line.0) ≡ length tree.now }
     requires child { is_child tree.now c parent.0 ≡ true }
     ensures { result ≡ option_map_or (λ local. cond (has_bit (awaited_of local).0 (place_among tree.now parent.0 c)) 1 0) (local_at (line_at s.now line.0) parent.0) 0 }
 {
@@ -207,8 +209,7 @@ fn awaits_with(tree: &Tree, s: &System, line: LineId, parent: ObjectId, c: u32) 
 /// The status of the entry that an object's parent keeps of it on a line, as a number; 0 where it has no parent.
 #[tactic(auto, using(crate::proofs::OnLine::child_of))]
 fn entry_at(tree: &Tree, s: &System, line: LineId, c: u32) -> u64
-    requires line { line.0 < length s.now }
-    requires objects { length (line_at s.now line.0) ≡ length tree.now }
+    requires { line.0 < length s.now }
     ensures { result ≡ in_parent tree.now (line_at s.now line.0) c (λ k local. status_number (slice_get local.dir k)) }
 {
     match parent_of(tree, c) {
@@ -220,8 +221,7 @@ fn entry_at(tree: &Tree, s: &System, line: LineId, c: u32) -> u64
 /// Whether an object's parent awaits it on a line: 1 or 0.
 #[tactic(auto, using(crate::proofs::OnLine::child_of))]
 fn awaits_at(tree: &Tree, s: &System, line: LineId, c: u32) -> u64
-    requires line { line.0 < length s.now }
-    requires objects { length (line_at s.now line.0) ≡ length tree.now }
+    requires { line.0 < length s.now }
     ensures { result ≡ in_parent tree.now (line_at s.now line.0) c (λ k local. cond (has_bit (awaited_of local).0 k) 1 0) }
 {
     match parent_of(tree, c) {
@@ -232,8 +232,7 @@ fn awaits_at(tree: &Tree, s: &System, line: LineId, c: u32) -> u64
 
 /// What a register holds in the image of a line.
 fn number_at(tree: &Tree, s: &System, line: LineId, reg: Reg) -> u64
-    requires line { line.0 < length s.now }
-    requires objects { length (line_at s.now line.0) ≡ length tree.now }
+    requires { line.0 < length s.now }
     ensures { result ≡ number_of tree.now (line_at s.now line.0) (reg_of reg) }
 {
     match reg {
@@ -254,8 +253,7 @@ fn numbers_at(
     line: LineId,
     regs: &[Reg],
 ) -> Result<List<u64>, OutOfMemory>
-    requires line { line.0 < length s.now }
-    requires objects { length (line_at s.now line.0) ≡ length tree.now }
+    requires { line.0 < length s.now }
     ensures { IfOk result (λ numbers. numbers ≡ map (λ r. number_of tree.now (line_at s.now line.0) (reg_of r)) regs.now) }
 {
     let mut numbers = List::new(alloc);
@@ -333,8 +331,7 @@ fn filled(
     regs: &[Reg],
     queues: &[Queue],
 ) -> Result<ModState, OutOfMemory>
-    requires line { line.0 < length s.now }
-    requires objects { length (line_at s.now line.0) ≡ length tree.now }
+    requires { line.0 < length s.now }
     ensures regs { IfOk result (λ m. m.regs ≡ map (λ r. number_of tree.now (line_at s.now line.0) (reg_of r)) regs.now) }
     ensures queues { IfOk result (λ m. m.queues ≡ map (λ q. list_at (line_at s.now line.0) (queue_of q).object (queue_of q).lane) queues.now) }
 {
@@ -355,7 +352,6 @@ fn image_of(
     queues: &[Queue],
 ) -> Result<ModState, OutOfMemory>
     requires line { line.0 < length s.now }
-    requires objects { length (line_at s.now line.0) ≡ length tree.now }
     requires regs { map reg_of regs.now ≡ registers p.now tree.now }
     requires queues { map queue_of queues.now ≡ all_queues tree.now }
     ensures { IfOk result (λ m. m ≡ state_of p.now tree.now (line_at s.now line.0)) }
@@ -371,8 +367,7 @@ fn image_on(
     s: &System,
     line: LineId,
 ) -> Result<ModState, OutOfMemory>
-    requires line { line.0 < length s.now }
-    requires objects { length (line_at s.now line.0) ≡ length tree.now }
+    requires { line.0 < length s.now }
     ensures { IfOk result (λ m. m ≡ state_of p.now tree.now (line_at s.now line.0)) }
 {
     let regs = registers(alloc, p, tree)?;
@@ -380,8 +375,8 @@ fn image_on(
     image_of(alloc, p, tree, s, line, regs.as_slice(), lists.as_slice())
 }
 
-/// The image of a line that has each object of the tree, as a state of the modules that the protocol is translated to: what
-/// each register and each queue holds, in text order.
+/// The image of a line, as a state of the modules that the protocol is translated to: what each register and each queue
+/// holds, in text order.
 pub fn image(
     alloc: Global,
     a: &Accepted,
@@ -389,8 +384,7 @@ pub fn image(
     s: &System,
     line: LineId,
 ) -> Result<ModState, OutOfMemory>
-    requires line { line.0 < length s.now }
-    requires objects { length (slice_index_or s.now line.0 []) ≡ length tree.now }
+    requires { line.0 < length s.now }
     ensures { IfOk result (λ m. m ≡ state_of a.now tree.now (slice_index_or s.now line.0 [])) }
 {
     image_on(alloc, a.protocol(), tree, s, line)
