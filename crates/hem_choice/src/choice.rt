@@ -1,12 +1,13 @@
 //! Choosing a firing.
 
-ghost use Rattle.std.specs.Prelude.{◌≡◌, ◌≤◌, length, map};
+ghost use Rattle.std.specs.Prelude.{◌≡◌, ◌≤◌, None, Some, length, map};
 ghost use Rattle.std.specs.Prelude.{not, ◌||◌};
 ghost use Rattle.std.specs.List.{list_all, enumerate_from};
 ghost use Rattle.hem_base.specs.Sets.{has_bit};
 ghost use Rattle.hem_system.specs.Ended.{takes_nothing};
 ghost use Rattle.hem_choice.specs.Choices.{message_in, heads_of, may_send, is_spent, choice_by, choice_with, choice_below, choice_of, chosen};
 
+use crate::firsts::names_child;
 use crate::stamps::{request_of, stamp_after};
 use arrayvec::ArrayVec;
 use hem_base::{Carried, KidSet, Kind, Message};
@@ -54,7 +55,8 @@ impl Model for Sight {
     ghost view = { λ s. record { asked = s.asked; look = s.look; spent = s.spent; last = s.last } };
 }
 
-fn message_in(carried: Option<Carried>) -> Option<Message>
+/// The message of what was carried.
+pub(crate) fn message_in(carried: Option<Carried>) -> Option<Message>
     ensures { result ≡ message_in carried }
 {
     carried.map(|carried| carried.message)
@@ -128,6 +130,7 @@ impl Sight {
     }
 
     /// The firing of a rule by a plan, where it may be made.
+    #[inline(always)]
     fn choose_by<'p>(&self, rule: &'p Rule, me: Option<u8>, plan: Plan) -> Option<Choice<'p>>
         ensures { result ≡ choice_by self.now rule.now me plan }
     {
@@ -146,6 +149,7 @@ impl Sight {
     }
 
     /// The firing of a rule that names this child, where it may be made.
+    #[inline(always)]
     fn choose_with<'p>(
         &self,
         p: &Protocol,
@@ -166,6 +170,39 @@ impl Sight {
         }
     }
 
+    /// The same with no child named: what the firing asks first is tried before all else.
+    fn choose_alone<'p>(
+        &self,
+        p: &Protocol,
+        kind: Kind,
+        local: &Local,
+        rule: &'p Rule,
+    ) -> Option<Choice<'p>>
+        ensures { result ≡ choice_with p.now kind local.now self.now rule.now None }
+    {
+        if !self.may_begin(local, rule) {
+            return None;
+        }
+        self.choose_with(p, kind, local, rule, None)
+    }
+
+    /// The same of the child at a place.
+    fn choose_for<'p>(
+        &self,
+        p: &Protocol,
+        kind: Kind,
+        local: &Local,
+        rule: &'p Rule,
+        place: u8,
+    ) -> Option<Choice<'p>>
+        ensures { result ≡ choice_with p.now kind local.now self.now rule.now (Some place) }
+    {
+        if !self.may_begin_for(local, rule, place) {
+            return None;
+        }
+        self.choose_with(p, kind, local, rule, Some(place))
+    }
+
     /// The first firing of a rule that may be made and names a child.
     fn choose_below<'p>(
         &self,
@@ -177,8 +214,11 @@ impl Sight {
         requires { length self.now.look.kids ≤ 8 }
         ensures { result ≡ choice_below p.now kind local.now self.now rule.now }
     {
+        if !names_child(rule.take) {
+            return None;
+        }
         for place in 0..self.look.kids.len() {
-            if let Some(choice) = self.choose_with(p, kind, local, rule, Some(place as u8)) {
+            if let Some(choice) = self.choose_for(p, kind, local, rule, place as u8) {
                 return Some(choice);
             }
         }
@@ -196,7 +236,7 @@ impl Sight {
         requires { length self.now.look.kids ≤ 8 }
         ensures { result ≡ choice_of p.now kind local.now self.now rule.now }
     {
-        match self.choose_with(p, kind, local, rule, None) {
+        match self.choose_alone(p, kind, local, rule) {
             Some(choice) => Some(choice),
             None => self.choose_below(p, kind, local, rule),
         }

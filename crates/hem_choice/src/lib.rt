@@ -2,6 +2,7 @@
 #![tactic(auto)]
 
 mod choice;
+mod firsts;
 mod stamps;
 
 pub use choice::{Choice, Sight};

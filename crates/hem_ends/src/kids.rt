@@ -106,6 +106,7 @@ fn look_at<N: Net>(kids: &mut List<KidEnds<N>>, place: usize) -> KidLook
 }
 
 /// What is known of the edges to all children, in order.
+#[inline(always)]
 pub(crate) fn look_at_all<N: Net>(kids: &mut List<KidEnds<N>>) -> ArrayVec<KidLook, 8>
     requires { length kids.old ≤ 8 }
     ensures looked { AreKids (λ k. IsKidLooked) kids.old kids.new }

@@ -113,6 +113,7 @@ fn goes_up_response(to: To) -> bool
 
 impl<N: Net> LineEnds<N> {
     /// What is known of all edges. It reserves a slot of each sending end that knows of a free one.
+    #[inline(always)]
     pub fn look(&mut self) -> Look
         requires { length self.old.kids ≤ 8 }
         ensures looked { IsLooked self.old self.new }

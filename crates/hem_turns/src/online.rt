@@ -189,6 +189,7 @@ impl<N: Net> OnLine<N> {
     }
 
     /// What the object chooses by. It reserves a slot of each sending end that knows of a free one.
+    #[inline(always)]
     fn see(&mut self, place: Place) -> Sight
         requires { length self.old.ends.kids ≤ 8 }
         ensures looked { IsSeen self.old self.new }

@@ -44,7 +44,7 @@ none_of_nobody k [] = refl
 none_of_nobody k (x ∷ xs) = ap (λ b. cond b ((k, x) ∷ filter (λ p. has_bit 0 p.0) (enumerate_from (k + 1) xs)) (filter (λ p. has_bit 0 p.0) (enumerate_from (k + 1) xs))) (no_bit k) ∙ none_of_nobody (k + 1) xs
 
 -- where children's responses are there, the downlock is held
-held_by : (id : MsgId) (local : Local) (heads : Heads) → takes_there (take.Kids id) local heads ≡ true → is_some local.down ≡ true
+pub held_by : (id : MsgId) (local : Local) (heads : Heads) → takes_there (take.Kids id) local heads ≡ true → is_some local.down ≡ true
 held_by id local heads there = by_lock local.down refl
   where
     by_lock : (lock : Option _) → local.down ≡ lock → is_some lock ≡ true
@@ -55,7 +55,7 @@ held_by id local heads there = by_lock local.down refl
         let clash = sym (ap (λ xs. nat_lt 0 (length xs)) none) ∙ and_left _ _ there in cc
 
 -- a child that the take can't have
-no_child : (kind : Kind) (t : Take) (place children : ℕ) → ((id : MsgId) → t ≡ take.Me id → false ≡ true) → me_fits kind t (Some place) children ≡ true → false ≡ true
+pub no_child : (kind : Kind) (t : Take) (place children : ℕ) → ((id : MsgId) → t ≡ take.Me id → false ≡ true) → me_fits kind t (Some place) children ≡ true → false ≡ true
 no_child Leaf t place children other fits = cc
 no_child Root (take.Me id) place children other fits = other id refl
 no_child Root (take.Parent id) place children other fits = cc
@@ -85,7 +85,7 @@ pub record CanFire (kind : Kind) (rule : Rule) (me : Option ℕ) (local : Local)
   pub down : need_holds rule.need.down local.down ≡ true
   pub guarded : list_all (atom_holds local (view_of rule.take me local heads)) rule.guard ≡ true
 
-by_can : (p : Protocol) (kind : Kind) (rule : Rule) (me : Option ℕ) (local : Local) (heads : Heads) → can_fire p kind rule me local heads ≡ true → CanFire kind rule me local heads
+pub by_can : (p : Protocol) (kind : Kind) (rule : Rule) (me : Option ℕ) (local : Local) (heads : Heads) → can_fire p kind rule me local heads ≡ true → CanFire kind rule me local heads
 by_can p kind rule me local heads can =
     let held = and_left _ _ can in
     let begins = and_left _ _ (and_left _ _ (and_left _ _ held)) in
@@ -137,7 +137,7 @@ same_rule p tree s l o rule me of it =
     one (sym it.rule_is ∙ (λ i. rule_named p (kind i) rule.name) ∙ of.rule_is)
 
 -- what fails where something would follow from its being true
-never : (b : Bool) → (b ≡ true → false ≡ true) → b ≡ false
+pub never : (b : Bool) → (b ≡ true → false ≡ true) → b ≡ false
 never true clash = sym (clash refl)
 never false clash = refl
 
@@ -195,7 +195,7 @@ child_asks p tree k h s l o rule (Some child) of some ready =
     (subst (λ (r : Rule). takes_there r.take it.local (heads_of tree it.line o (Some child)) ≡ true) same it.can.takes)
 
 -- where a guard holds, its conditions on fields do
-fields_of : (local : Local) (view : View) (guard : List Atom) → list_all (atom_holds local view) guard ≡ true → list_all (field_holds local) guard ≡ true
+pub fields_of : (local : Local) (view : View) (guard : List Atom) → list_all (atom_holds local view) guard ≡ true → list_all (field_holds local) guard ≡ true
 fields_of local view [] all = refl
 fields_of local view (a ∷ rest) all =
     let parts = both (atom_holds local view a) (list_all (atom_holds local view) rest) all in

@@ -70,7 +70,7 @@ fn fields_hold(local: &Local, guard: &[Atom]) -> bool
 
 /// Whether both locks are as a rule needs them, and the fields are as its guard wants them. Where they aren't, it can't
 /// fire, whatever messages are there.
-fn is_open(rule: &Rule, local: &Local) -> bool
+pub fn is_open(rule: &Rule, local: &Local) -> bool
     ensures { result ≡ is_open rule.now local.now }
 {
     needs_hold(rule, local) && fields_hold(local, rule.guard.as_slice())

@@ -9,4 +9,5 @@ mod turns;
 mod whole;
 mod working;
 
+pub use firsts::is_open;
 pub use whole::{Walked, walk};

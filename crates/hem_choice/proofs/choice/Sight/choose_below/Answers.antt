@@ -1,7 +1,11 @@
-use Rattle.std.proofs.Common.{ℕ, Option, Some, length, rules}
+use Rattle.std.proofs.Common.{sym, ◌∙◌, ℕ, Option, Some, length, rules}
 use Rattle.hem_abstract.proofs.Turns.{number-none, number-some}
 use Rattle.hem_choice.specs.Choices.{Choice, choice_with}
+use Rattle.hem_choice.proofs.Failing.{nobody_named}
 use Rattle.hem_choice.proofs.choice.Sight.choose_below.Goals as goal
+
+pub returns-then-not-names_child : goal.returns-then-not-names_child
+returns-then-not-names_child c = nobody_named c.args.p.now c.args.kind c.args.local.now c.args.self.now c.args.rule.now (sym c.names_child.ensures ∙ c.if-not-names_child.true)
 
 pub returns-in-Some : goal.returns-in-Some
 returns-in-Some c =

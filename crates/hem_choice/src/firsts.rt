@@ -1,0 +1,71 @@
+//! What a firing asks first. It is cheap, and most rules fail it.
+
+ghost use Rattle.std.specs.Prelude.{◌≡◌, ◌&&◌};
+ghost use Rattle.hem_fire.specs.Heads.{has_id};
+ghost use Rattle.hem_walk.specs.Firsts.{is_open, names_child};
+ghost use Rattle.hem_choice.specs.Firsts.{asks_alone, asks_child};
+
+use crate::choice::{Sight, message_in};
+use crate::stamps::request_of;
+use hem_base::{Message, MsgId};
+use hem_object::Local;
+use hem_syntax::{Rule, Take};
+use hem_walk::is_open;
+
+/// Whether a message is there and has the id.
+fn has_id(message: Option<Message>, id: MsgId) -> bool
+    ensures { result ≡ has_id message id }
+{
+    match message {
+        Some(message) => message.id == id,
+        None => false,
+    }
+}
+
+/// Whether a rule with that take names a child, on an object that has some.
+pub(crate) fn names_child(take: Take) -> bool
+    ensures { result ≡ names_child take }
+{
+    matches!(take, Take::Me(_))
+}
+
+impl Sight {
+    /// Whether there is what a firing asks first that takes so and names no child.
+    fn asks_alone(&self, local: &Local, take: Take) -> bool
+        ensures { result ≡ asks_alone self.now local.now take }
+    {
+        match take {
+            Take::Me(id) => has_id(self.asked, id),
+            Take::Parent(id) => has_id(message_in(self.look.parent), id),
+            Take::Kids(_) => local.down.is_some(),
+            Take::Nothing => !self.spent,
+        }
+    }
+
+    /// Whether there is what a firing asks first that takes so and names the child at a place.
+    fn asks_child(&self, take: Take, place: u8) -> bool
+        ensures { result ≡ asks_child self.now take place }
+    {
+        match take {
+            Take::Me(id) => has_id(message_in(request_of(&self.look, Some(place))), id),
+            _ => false,
+        }
+    }
+
+    /// Whether a firing of a rule that names no child has what it asks first, and the rule's locks and fields are as it needs
+    /// them.
+    #[inline(always)]
+    pub(crate) fn may_begin(&self, local: &Local, rule: &Rule) -> bool
+        ensures { result ≡ (asks_alone self.now local.now rule.now.take && is_open rule.now local.now) }
+    {
+        self.asks_alone(local, rule.take) && is_open(rule, local)
+    }
+
+    /// The same of one that names the child at a place.
+    #[inline(always)]
+    pub(crate) fn may_begin_for(&self, local: &Local, rule: &Rule, place: u8) -> bool
+        ensures { result ≡ (asks_child self.now rule.now.take place && is_open rule.now local.now) }
+    {
+        self.asks_child(rule.take, place) && is_open(rule, local)
+    }
+}
