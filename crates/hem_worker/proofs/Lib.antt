@@ -1,11 +1,11 @@
-mod EndsKept
-mod Named
-mod Waiting
+pub mod EndsKept
+pub mod Named
+pub mod Waiting
 mod Fired
 mod Lengthened
-mod SoFar
+pub mod SoFar
 mod RoundsRun
 mod Rooms
-mod Settled
+pub mod Settled
 mod ChannelsKept
-mod Stuck
+pub mod Stuck

@@ -1,0 +1,4 @@
+pub mod Crew
+pub mod Knowing
+pub mod Rounds
+pub mod Held

@@ -1,0 +1,9 @@
+pub mod Exact
+pub mod IdleRound
+pub mod Waits
+pub mod Possible
+pub mod Reached
+pub mod Slots
+pub mod Stamps
+pub mod Bounded
+pub mod End
