@@ -1,0 +1,10 @@
+pub mod Halves
+pub mod Elements
+pub mod Shares
+pub mod Stills
+pub mod Roomier
+pub mod Fits
+pub mod Settling
+pub mod Ending
+pub mod Histories
+pub mod TakenOut

@@ -1,0 +1,5 @@
+pub mod Turned
+pub mod Pairs
+pub mod Settles
+pub mod Rounds
+pub mod Runs

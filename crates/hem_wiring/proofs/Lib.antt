@@ -1,0 +1,5 @@
+mod Pushed
+mod Channels
+mod Rows
+mod Added
+mod Crews
