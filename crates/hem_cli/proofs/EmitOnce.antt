@@ -13,7 +13,7 @@ use Rattle.hem_cli.specs.Refusals.{IsRefused}
 use Rattle.hem_cli.specs.Emitting.{IsEmitted, IsUnlawfulTree, IsOnTree, IsEmitReply}
 use Rattle.hem_cli.specs.declared.status.Status.{Status}
 use Rattle.hem_cli.specs.declared.status.Status.TheVariants.{Done, Refused, Setup}
-use Rattle.hem_cli.proofs.Ways.{IsOnce, status_once, either_once}
+use Rattle.hem_cli.proofs.Ways.{IsOnce, Same, status_once, either_once}
 use Rattle.hem_cli.proofs.RefusedOnce.{refused_once, refused_excludes}
 
 emitted_once : (p : Protocol) (tree : Tree) (x y : List ℕ) → IsEmitted p tree x → IsEmitted p tree y → x ≡ y
@@ -24,15 +24,15 @@ unlawful_once nodes x y one other = one.says ∙ (ap setup_text (tree_fault_once
 
 on_tree_once : (p : Protocol) (nodes : List RawNode) → IsOnce (IsOnTree p nodes)
 on_tree_once p nodes =
-    either_once (λ a x. (a ≡ Setup) × IsUnlawfulTree nodes x) (λ a x. (a ≡ Done) × IsLawful (tree_of nodes) × IsEmitted p (tree_of nodes) x)
-    (status_once Setup (IsUnlawfulTree nodes) (unlawful_once nodes))
+    either_once Same (λ a x. (a ≡ Setup) × IsUnlawfulTree nodes x) (λ a x. (a ≡ Done) × IsLawful (tree_of nodes) × IsEmitted p (tree_of nodes) x)
+    (status_once Same Setup (IsUnlawfulTree nodes) (unlawful_once nodes))
     (λ a b x y one other. (one.0 ∙ sym other.0, emitted_once p (tree_of nodes) x y one.2 other.2))
     (λ a b x y one other. one.1.first.unlawful other.1)
 
 -- a document has one reply
 pub emit_once : (d : TreeDocument) → IsOnce (IsEmitReply d)
 emit_once d =
-    either_once (λ a x. (a ≡ Refused) × IsRefused d.protocol x) (λ a x. IsDisciplined d.protocol × IsOnTree d.protocol d.tree a x)
-    (status_once Refused (IsRefused d.protocol) (refused_once d.protocol))
+    either_once Same (λ a x. (a ≡ Refused) × IsRefused d.protocol x) (λ a x. IsDisciplined d.protocol × IsOnTree d.protocol d.tree a x)
+    (status_once Same Refused (IsRefused d.protocol) (refused_once d.protocol))
     (λ a b x y one other. on_tree_once d.protocol d.tree a b x y one.1 other.1)
     (λ a b x y one other. refused_excludes d.protocol x one.1 other.0)

@@ -1,5 +1,5 @@
 -- The replies of `emit` and `play`.
-use Rattle.std.proofs.Common.{◌≡◌, sym, ap, subst, ℕ, List, Some, inl, inr}
+use Rattle.std.proofs.Common.{◌≡◌, sym, ap, subst, ℕ, List, Some, inl, inr, string_bytes}
 use Rattle.std.specs.Prelude.{Result, Ok, Err, IfOk, OnOk, option_map}
 use Rattle.hem_base.specs.declared.outside.OutOfMemory.{OutOfMemory}
 use Rattle.hem_syntax.specs.Protocol.{Protocol}
@@ -38,13 +38,13 @@ on_tree_told p nodes tree a x is lawful done emitted = inr (done, subst IsLawful
 
 -- a disciplined protocol has what comes of it on the tree for a reply
 pub emit_accepted : (d : TreeDocument) (accepted : Protocol) (r : Result Reply OutOfMemory) → accepted ≡ d.protocol → IsDisciplined d.protocol
-    → IfOk r (λ x. IsOnTree accepted d.tree x.status x.text.items) → IfOk r (λ x. IsEmitReply d x.status x.text.items)
-emit_accepted d accepted (Ok x) same disciplined told = inr (disciplined, subst (λ p. IsOnTree p d.tree x.status x.text.items) same told)
+    → IfOk r (λ x. IsOnTree accepted d.tree x.status (string_bytes x.text)) → IfOk r (λ x. IsEmitReply d x.status (string_bytes x.text))
+emit_accepted d accepted (Ok x) same disciplined told = inr (disciplined, subst (λ p. IsOnTree p d.tree x.status (string_bytes x.text)) same told)
 emit_accepted d accepted (Err e) same disciplined told = tt
 
 -- and another its refusal
 pub emit_refused : (d : TreeDocument) (refusal : Refusal) (r : Result Reply OutOfMemory) → option_map (refusal_of d.protocol) (first_broken d.protocol) ≡ Some refusal → IfOk r (λ x. x.status ≡ Refused)
-    → IfOk r (λ x. (q : Protocol) → option_map (refusal_of q) (first_broken q) ≡ Some refusal → IsRefused q x.text.items) → IfOk r (λ x. IsEmitReply d x.status x.text.items)
+    → IfOk r (λ x. (q : Protocol) → option_map (refusal_of q) (first_broken q) ≡ Some refusal → IsRefused q (string_bytes x.text)) → IfOk r (λ x. IsEmitReply d x.status (string_bytes x.text))
 emit_refused d refusal (Ok x) is status text = inl (status, text d.protocol is)
 emit_refused d refusal (Err e) is status text = tt
 

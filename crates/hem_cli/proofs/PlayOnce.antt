@@ -12,7 +12,7 @@ use Rattle.hem_document.specs.declared.documents.PlayDocument.{PlayDocument}
 use Rattle.hem_cli.specs.Playing.{fed_one, fed_start, IsPlay, IsPlayReply}
 use Rattle.hem_cli.specs.declared.status.Status.TheVariants.{Done}
 use Rattle.hem_cli.proofs.Endings.{if_some}
-use Rattle.hem_cli.proofs.Ways.{IsOnce, status_once}
+use Rattle.hem_cli.proofs.Ways.{IsOnce, Same, status_once}
 
 -- a write past the end of a list
 set_past : {A : Type 0} (xs : List A) (i : ℕ) (x : A) → length xs ≤ i → slice_set xs i x ≡ xs
@@ -65,4 +65,4 @@ play_text_once d most x y one other =
 
 -- a document has one reply
 pub play_once : (most : ℕ) (d : PlayDocument) → IsOnce (IsPlayReply most d)
-play_once most d = status_once Done (IsPlay d.modules d.feed most) (play_text_once d most)
+play_once most d = status_once Same Done (IsPlay d.modules d.feed most) (play_text_once d most)

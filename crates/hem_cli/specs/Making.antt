@@ -1,6 +1,7 @@
 -- What the job `make` prints.
-use Rattle.std.specs.Prelude.{ℕ, List, ◌∷◌, ◌++◌, Option, Some, None, if◌then◌else◌, codes}
+use Rattle.std.specs.Prelude.{◌≡◌, ℕ, IsTrue, List, ◌∷◌, ◌++◌, Option, Some, None, if◌then◌else◌, codes}
 use Rattle.std.specs.Option.{option_map_or}
+use Rattle.hem_base.specs.Words.{is_word_text}
 use Rattle.hem_base.specs.declared.words.Reserved.TheVariants as word
 use Rattle.hem_text.specs.Lexemes.{Lexeme}
 use Rattle.hem_text.specs.Tokens.{tokens_of}
@@ -16,6 +17,10 @@ use Rattle.hem_worktext.specs.WorkText.{work_text}
 abbrev pub used_name : List Lexeme → Option Text
 used_name (first ∷ name ∷ rest) = if is_the_word word.Use first then Some name.text else None
 used_name _ = None
+
+-- the name that a document uses, where it uses one, is a word
+abbrev pub UsesWord : List ℕ → Type 0
+UsesWord bytes = (name : Text) → used_name (tokens_of bytes) ≡ Some name → IsTrue (is_word_text name)
 
 -- the line of a shipped protocol
 abbrev pub use_line : Text → Text

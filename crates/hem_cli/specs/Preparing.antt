@@ -1,5 +1,5 @@
 -- What a document is made into before its job.
-use Rattle.std.specs.Prelude.{◌≡◌}
+use Rattle.std.specs.Prelude.{◌≡◌, string_bytes}
 use Rattle.hem_document.specs.declared.documents.WorkDocument.{WorkDocument}
 use Rattle.hem_document.specs.SetUp.{tree_in, work_in}
 use Rattle.hem_cli.specs.Refusals.{IsReady, IsUnready}
@@ -16,4 +16,4 @@ pub record IsOf (d : WorkDocument) (ready : Ready) : Type 0 where
 -- a document is ready for its job, or has its reply
 abbrev pub IsPrepared : WorkDocument → Prepared → Type 0
 IsPrepared d (ForJob ready) = IsReady d × IsOf d ready
-IsPrepared d (Answered reply) = IsUnready d reply.status reply.text.items
+IsPrepared d (Answered reply) = IsUnready d reply.status (string_bytes reply.text)

@@ -52,6 +52,6 @@ setup_text f = codes "setup " ++ place_text f.place ++ codes " " ++ rule_text f.
 abbrev pub grouped_text : Protocol → Tree → List Block → State → Text
 grouped_text p tree blocks end = word_of end ++ blocks_text p blocks ++ state_text p tree end
 
--- a walk: the word, its firings, the blocks, and the end
-abbrev pub walked_text : Protocol → Tree → List Firing → List Block → State → Text
-walked_text p tree journal blocks end = end_word_of end ++ journal_text p journal ++ blocks_text p blocks ++ state_text p tree end
+-- a history to its end: the word, its firings, the blocks, and the end
+abbrev pub ended_text : Protocol → Tree → List Firing → List Block → State → Text
+ended_text p tree journal blocks end = end_word_of end ++ journal_text p journal ++ blocks_text p blocks ++ state_text p tree end

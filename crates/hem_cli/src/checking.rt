@@ -1,6 +1,6 @@
 //! The job `check`: whether a protocol is disciplined.
 
-ghost use Rattle.std.specs.Prelude.{◌≡◌, ◌≤◌, length, IfOk};
+ghost use Rattle.std.specs.Prelude.{◌≡◌, ◌≤◌, length, string_bytes, IfOk};
 ghost use Rattle.hem_cli.specs.Answer.{most_bytes, IsVerdict, IsJobAnswer};
 ghost use Rattle.hem_words.specs.declared.job.Job.{Job};
 
@@ -16,7 +16,7 @@ use std::alloc::Global;
 
 /// The answer to a protocol.
 fn verdict(alloc: Global, protocol: Protocol) -> Result<Reply, OutOfMemory>
-    ensures { IfOk result (λ r. IsVerdict protocol r.status r.text.items) }
+    ensures { IfOk result (λ r. IsVerdict protocol r.status (string_bytes r.text)) }
 {
     match check(protocol) {
         Ok(accepted) => {
@@ -33,7 +33,7 @@ fn verdict(alloc: Global, protocol: Protocol) -> Result<Reply, OutOfMemory>
 /// The answer of `check` to a whole input.
 pub(crate) fn checked(alloc: Global, bytes: &[u8]) -> Result<Reply, OutOfMemory>
     requires { length bytes.now ≤ most_bytes }
-    ensures { IfOk result (λ r. IsJobAnswer Job.Check bytes.now r.status r.text.items) }
+    ensures { IfOk result (λ r. IsJobAnswer Job.Check bytes.now r.status (string_bytes r.text)) }
 {
     match read_protocol_document(alloc, bytes) {
         Ok(protocol) => verdict(alloc, protocol),

@@ -26,7 +26,7 @@ fn emitted(alloc: Global, accepted: &Accepted, tree: &Tree) -> Result<String, Ou
 
 /// The reply to a disciplined protocol and a tree.
 fn emitted_on(alloc: Global, accepted: &Accepted, raw: &RawTree) -> Result<Reply, OutOfMemory>
-    ensures { IfOk result (λ r. IsOnTree accepted.now raw.now r.status r.text.items) }
+    ensures { IfOk result (λ r. IsOnTree accepted.now raw.now r.status (string_bytes r.text)) }
 {
     match Tree::build(alloc, raw) {
         Ok(tree) => {
@@ -40,7 +40,7 @@ fn emitted_on(alloc: Global, accepted: &Accepted, raw: &RawTree) -> Result<Reply
 
 /// The reply to a document.
 fn document_reply(alloc: Global, document: TreeDocument) -> Result<Reply, OutOfMemory>
-    ensures { IfOk result (λ r. IsEmitReply document r.status r.text.items) }
+    ensures { IfOk result (λ r. IsEmitReply document r.status (string_bytes r.text)) }
 {
     let TreeDocument { protocol, tree } = document;
     match check(protocol) {
@@ -58,7 +58,7 @@ fn document_reply(alloc: Global, document: TreeDocument) -> Result<Reply, OutOfM
 /// The answer of `emit` to a whole input.
 pub(crate) fn emit_from(alloc: Global, bytes: &[u8]) -> Result<Reply, OutOfMemory>
     requires { length bytes.now ≤ most_bytes }
-    ensures { IfOk result (λ r. IsJobAnswer Job.Emit bytes.now r.status r.text.items) }
+    ensures { IfOk result (λ r. IsJobAnswer Job.Emit bytes.now r.status (string_bytes r.text)) }
 {
     match read_tree_document(alloc, bytes) {
         Ok(document) => document_reply(alloc, document),

@@ -1,6 +1,6 @@
 //! The job `group`: a history by transactions.
 
-ghost use Rattle.std.specs.Prelude.{◌≡◌, ◌≤◌, length, IfOk};
+ghost use Rattle.std.specs.Prelude.{◌≡◌, ◌≤◌, length, string_bytes, IfOk};
 ghost use Rattle.hem_words.specs.declared.job.Job.{Job};
 ghost use Rattle.hem_cli.specs.Answer.{most_bytes, IsGroupReply, IsJobAnswer};
 ghost use Rattle.hem_cli.specs.Grouping.{IsReplayed};
@@ -24,7 +24,7 @@ fn replayed<R: Threads + Sync>(
     ready: &Ready,
     history: &[Firing],
 ) -> Result<Reply, OutOfMemory>
-    ensures { IfOk result (λ r. IsReplayed ready.now.accepted ready.now.tree ready.now.work history.now r.status r.text.items) }
+    ensures { IfOk result (λ r. IsReplayed ready.now.accepted ready.now.tree ready.now.work history.now r.status (string_bytes r.text)) }
 {
     let p = ready.accepted.protocol();
     let tree = &ready.tree;
@@ -47,7 +47,7 @@ fn document_reply<R: Threads + Sync>(
     alloc: Global,
     document: Document,
 ) -> Result<Reply, OutOfMemory>
-    ensures { IfOk result (λ r. IsGroupReply document r.status r.text.items) }
+    ensures { IfOk result (λ r. IsGroupReply document r.status (string_bytes r.text)) }
 {
     let Document { setup, history } = document;
     match prepare(alloc, setup)? {
@@ -66,7 +66,7 @@ pub(crate) fn grouped<R: Threads + Sync>(
     bytes: &[u8],
 ) -> Result<Reply, OutOfMemory>
     requires { length bytes.now ≤ most_bytes }
-    ensures { IfOk result (λ r. IsJobAnswer Job.Group bytes.now r.status r.text.items) }
+    ensures { IfOk result (λ r. IsJobAnswer Job.Group bytes.now r.status (string_bytes r.text)) }
 {
     match read_document(alloc, bytes) {
         Ok(document) => document_reply(rt, alloc, document),

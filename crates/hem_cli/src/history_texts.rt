@@ -1,9 +1,9 @@
-//! The texts of a history that runs or stops, and of a walk.
+//! The texts of histories: one that runs, one that stops, and one to its end.
 
 ghost use Rattle.std.specs.Prelude.{◌≡◌, ◌++◌, IfOk, string_bytes};
 ghost use Rattle.hem_report.specs.Texts.{illegal_text};
 ghost use Rattle.hem_report.specs.StateText.{state_text};
-ghost use Rattle.hem_cli.specs.Texts.{grouped_text, walked_text};
+ghost use Rattle.hem_cli.specs.Texts.{grouped_text, ended_text};
 
 use hem_base::{Firing, OutOfMemory};
 use hem_report::{
@@ -48,8 +48,8 @@ pub(crate) fn stopped_text(
     Ok(text)
 }
 
-/// The text of a walk: the word, its firings, the blocks and the state to which it leads.
-pub(crate) fn walked_text(
+/// The text of a history to its end: the word, its firings, the blocks and the state to which it leads.
+pub(crate) fn ended_text(
     alloc: Global,
     p: &Protocol,
     tree: &Tree,
@@ -57,7 +57,7 @@ pub(crate) fn walked_text(
     blocks: &[Block],
     end: &System,
 ) -> Result<String, OutOfMemory>
-    ensures { IfOk result (λ s. string_bytes s ≡ walked_text p.now tree.now journal.now blocks.now end.now) }
+    ensures { IfOk result (λ s. string_bytes s ≡ ended_text p.now tree.now journal.now blocks.now end.now) }
 {
     let mut text = String::from_str(alloc, end_word_text(end))?;
     let journal = journal_text(alloc, p, journal)?;

@@ -1,11 +1,13 @@
 //! The job `make`: a document with generated requests.
 
-ghost use Rattle.std.specs.Prelude.{◌≡◌, ◌≤◌, ◌<◌, ◌++◌, length, string_bytes, option_map, IfOk};
+ghost use Rattle.std.specs.Prelude.{◌≡◌, ◌≤◌, ◌<◌, ◌++◌, length, string_bytes, option_map, IsTrue, IfOk};
+ghost use Rattle.hem_base.specs.Words.{is_word_text};
 ghost use Rattle.hem_text.specs.Tokens.{tokens_of};
 ghost use Rattle.hem_words.specs.declared.job.Job.{Job};
 ghost use Rattle.hem_work.specs.Lawful.{IsLawfulWork};
-ghost use Rattle.hem_cli.specs.Walking.{IsGenerated};
-ghost use Rattle.hem_cli.specs.Making.{used_name, use_line, protocol_part, made_text};
+ghost use Rattle.hem_document.specs.Documents.{IsWorkDocument};
+ghost use Rattle.hem_cli.specs.Generating.{IsGenerated};
+ghost use Rattle.hem_cli.specs.Making.{used_name, UsesWord, use_line, protocol_part, made_text};
 ghost use Rattle.hem_cli.specs.Answer.{most_bytes, IsMakeReply, IsJobAnswer};
 
 use crate::Status;
@@ -37,42 +39,40 @@ fn used_name(bytes: &[u8]) -> Option<&[u8]>
 }
 
 /// The line of a shipped protocol.
-fn use_line(alloc: Global, name: &[u8]) -> Result<Vec<u8>, OutOfMemory>
-    ensures { IfOk result (λ text. text.items ≡ use_line name.now) }
+fn use_line(alloc: Global, name: &[u8]) -> Result<String, OutOfMemory>
+    requires { IsTrue (is_word_text name.now) }
+    ensures { IfOk result (λ text. string_bytes text ≡ use_line name.now) }
 {
-    let mut text = Vec::from_slice(alloc, b"use ")?;
-    text.extend_from_slice(name)?;
-    text.push(b'\n')?;
-    Ok(text)
+    match str::from_utf8(name) {
+        Ok(name) => Ok(format!(in alloc; "use {name}\n")?),
+        Err(_) => unreachable!("a word is ASCII"),
+    }
 }
 
 /// The protocol of a document: its line `use NAME` where it has one, else the protocol written out.
-fn protocol_part(alloc: Global, bytes: &[u8], p: &Protocol) -> Result<Vec<u8>, OutOfMemory>
-    requires { length bytes.now ≤ most_bytes }
-    ensures { IfOk result (λ text. text.items ≡ protocol_part bytes.now p.now) }
+fn protocol_part(alloc: Global, bytes: &[u8], p: &Protocol) -> Result<String, OutOfMemory>
+    requires short { length bytes.now ≤ most_bytes }
+    requires word { UsesWord bytes.now }
+    ensures { IfOk result (λ text. string_bytes text ≡ protocol_part bytes.now p.now) }
 {
     match used_name(bytes) {
         Some(name) => use_line(alloc, name),
-        None => Ok(protocol_text(alloc, p)?.into_bytes()),
+        None => protocol_text(alloc, p),
     }
 }
 
 /// The text of a document of these bytes with another work.
-fn made_text(
-    alloc: Global,
-    bytes: &[u8],
-    ready: &Ready,
-    work: &Work,
-) -> Result<Vec<u8>, OutOfMemory>
-    requires { length bytes.now ≤ most_bytes }
-    ensures { IfOk result (λ text. text.items ≡ made_text bytes.now ready.now.accepted ready.now.tree work.now) }
+fn made_text(alloc: Global, bytes: &[u8], ready: &Ready, work: &Work) -> Result<String, OutOfMemory>
+    requires short { length bytes.now ≤ most_bytes }
+    requires word { UsesWord bytes.now }
+    ensures { IfOk result (λ text. string_bytes text ≡ made_text bytes.now ready.now.accepted ready.now.tree work.now) }
 {
     let p = ready.accepted.protocol();
     let mut text = protocol_part(alloc, bytes, p)?;
     let tree = tree_text(alloc, &ready.tree)?;
-    text.extend_from_slice(tree.as_bytes())?;
+    text.push_str(&tree)?;
     let work = work_text(alloc, p, work)?;
-    text.extend_from_slice(work.as_bytes())?;
+    text.push_str(&work)?;
     Ok(text)
 }
 
@@ -85,8 +85,9 @@ fn made(
     seed: u64,
 ) -> Result<Reply, OutOfMemory>
     requires short { length bytes.now ≤ most_bytes }
+    requires word { UsesWord bytes.now }
     requires lawful { IsLawfulWork ready.now.accepted ready.now.tree ready.now.work }
-    ensures { IfOk result (λ r. IsGenerated ready.now.accepted ready.now.tree ready.now.work count seed (λ with_more text. text ≡ made_text bytes.now ready.now.accepted ready.now.tree with_more) r.status r.text.items) }
+    ensures { IfOk result (λ r. IsGenerated ready.now.accepted ready.now.tree ready.now.work count seed (λ with_more text. text ≡ made_text bytes.now ready.now.accepted ready.now.tree with_more) r.status (string_bytes r.text)) }
 {
     let p = ready.accepted.protocol();
     match ready.work.make(alloc, p, &ready.tree, count, seed) {
@@ -107,8 +108,9 @@ fn document_reply(
     count: u32,
     seed: u64,
 ) -> Result<Reply, OutOfMemory>
-    requires { length bytes.now ≤ most_bytes }
-    ensures { IfOk result (λ r. IsMakeReply bytes.now count seed document r.status r.text.items) }
+    requires short { length bytes.now ≤ most_bytes }
+    requires reads { IsWorkDocument bytes.now document }
+    ensures { IfOk result (λ r. IsMakeReply bytes.now count seed document r.status (string_bytes r.text)) }
 {
     match prepare(alloc, document)? {
         Prepared::ForJob(ready) => {
@@ -122,7 +124,7 @@ fn document_reply(
 /// The answer of `make` to a whole input.
 pub(crate) fn make(alloc: Global, count: u32, seed: u64, bytes: &[u8]) -> Result<Reply, OutOfMemory>
     requires { length bytes.now ≤ most_bytes }
-    ensures { IfOk result (λ r. IsJobAnswer (Job.Make count seed) bytes.now r.status r.text.items) }
+    ensures { IfOk result (λ r. IsJobAnswer (Job.Make count seed) bytes.now r.status (string_bytes r.text)) }
 {
     match read_work_document(alloc, bytes) {
         Ok(document) => document_reply(alloc, bytes, document, count, seed),

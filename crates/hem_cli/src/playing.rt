@@ -57,7 +57,7 @@ fn played(alloc: Global, m: &Modules, feed: &[Fed], most: u32) -> Result<String,
 
 /// The reply to a document.
 fn document_reply(alloc: Global, document: PlayDocument, most: u32) -> Result<Reply, OutOfMemory>
-    ensures { IfOk result (λ r. IsPlayReply most document r.status r.text.items) }
+    ensures { IfOk result (λ r. IsPlayReply most document r.status (string_bytes r.text)) }
 {
     let text = played(alloc, &document.modules, document.feed.as_slice(), most);
     Ok(reply_with(Status::Done, letting_go(document, text)?))
@@ -66,7 +66,7 @@ fn document_reply(alloc: Global, document: PlayDocument, most: u32) -> Result<Re
 /// The answer of `play` to a whole input.
 pub(crate) fn play_from(alloc: Global, most: u32, bytes: &[u8]) -> Result<Reply, OutOfMemory>
     requires { length bytes.now ≤ most_bytes }
-    ensures { IfOk result (λ r. IsJobAnswer (Job.Play most) bytes.now r.status r.text.items) }
+    ensures { IfOk result (λ r. IsJobAnswer (Job.Play most) bytes.now r.status (string_bytes r.text)) }
 {
     match read_play_document(alloc, bytes) {
         Ok(document) => document_reply(alloc, document, most),

@@ -21,7 +21,7 @@ use std::alloc::Global;
 #[derive(Drop)]
 pub(crate) struct Reply {
     pub(crate) status: Status,
-    pub(crate) text: Vec<u8>,
+    pub(crate) text: String,
 }
 
 /// The answer, with what it was made from let go.
@@ -34,27 +34,24 @@ pub(crate) fn letting_go<A: Drop, B>(_made_from: A, answer: B) -> B
 /// The reply of a status with a promised text.
 pub(crate) fn reply_of(alloc: Global, status: Status, text: &str) -> Result<Reply, OutOfMemory>
     ensures status { IfOk result (λ r. r.status ≡ status) }
-    ensures text { IfOk result (λ r. r.text.items ≡ text.now) }
+    ensures text { IfOk result (λ r. string_bytes r.text ≡ text.now) }
 {
-    let text = Vec::from_slice(alloc, text.as_bytes())?;
+    let text = String::from_str(alloc, text)?;
     Ok(Reply { status, text })
 }
 
 /// The reply of a status with a text of the program's own.
 pub(crate) fn reply_with(status: Status, text: String) -> Reply
     ensures status { result.status ≡ status }
-    ensures text { result.text.items ≡ string_bytes text }
+    ensures text { string_bytes result.text ≡ string_bytes text }
 {
-    Reply {
-        status,
-        text: text.into_bytes(),
-    }
+    Reply { status, text }
 }
 
 /// The reply to bytes with a fault.
 pub(crate) fn unread(alloc: Global, fault: TextFault) -> Result<Reply, OutOfMemory>
     ensures status { IfOk result (λ r. r.status ≡ Status.Text) }
-    ensures text { IfOk result (λ r. r.text.items ≡ fault_text fault) }
+    ensures text { IfOk result (λ r. string_bytes r.text ≡ fault_text fault) }
 {
     let text = fault_text(alloc, fault)?;
     Ok(reply_with(Status::Text, text))
@@ -63,7 +60,7 @@ pub(crate) fn unread(alloc: Global, fault: TextFault) -> Result<Reply, OutOfMemo
 /// The reply to a protocol that isn't disciplined.
 pub(crate) fn refused(alloc: Global, refusal: &Refusal) -> Result<Reply, OutOfMemory>
     ensures status { IfOk result (λ r. r.status ≡ Status.Refused) }
-    ensures text { IfOk result (λ r. (p : Protocol) → option_map (refusal_of p) (first_broken p) ≡ Some refusal.now → IsRefused p r.text.items) }
+    ensures text { IfOk result (λ r. (p : Protocol) → option_map (refusal_of p) (first_broken p) ≡ Some refusal.now → IsRefused p (string_bytes r.text)) }
 {
     let text = refusal_text(alloc, refusal)?;
     Ok(reply_with(Status::Refused, text))
@@ -72,7 +69,7 @@ pub(crate) fn refused(alloc: Global, refusal: &Refusal) -> Result<Reply, OutOfMe
 /// The reply to a document of which the tree or the work isn't lawful.
 pub(crate) fn unlawful(alloc: Global, fault: SetupFault) -> Result<Reply, OutOfMemory>
     ensures status { IfOk result (λ r. r.status ≡ Status.Setup) }
-    ensures text { IfOk result (λ r. r.text.items ≡ setup_text fault) }
+    ensures text { IfOk result (λ r. string_bytes r.text ≡ setup_text fault) }
 {
     let text = setup_text(alloc, fault)?;
     Ok(reply_with(Status::Setup, text))

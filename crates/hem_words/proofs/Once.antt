@@ -1,10 +1,11 @@
--- Words ask for one job.
+-- Words ask for one thing.
 use Rattle.std.proofs.Common.{◌≡◌, ◌∙◌, refl, sym, ap, ap₂, arith, ℕ, List, [], ◌∷◌, Option, Some, None}
 use Rattle.std.specs.Option.{option_map_or}
-use Rattle.hem_words.specs.CommandLine.{Given}
-use Rattle.hem_words.specs.Job.{IsNumber, IsCountOf, IsMostOf, IsSeedOf, IsJobOf, AsksFor}
+use Rattle.hem_words.specs.CommandLine.{Given, given_in}
+use Rattle.hem_words.specs.Job.{IsCountOf, IsMostOf, IsSeedOf, IsJobOf, AsksFor}
 use Rattle.hem_words.specs.declared.job.Job.{Job}
-use Rattle.hem_words.specs.declared.job.Job.TheVariants.{Check, Group, Walk, Emit, Play, Make}
+use Rattle.hem_words.specs.declared.job.Asked.{Asked}
+use Rattle.hem_words.specs.declared.job.Job.TheVariants.{Check, Group, Run, Walk, Emit, Play, Make}
 
 -- the first letter of a text
 abbrev first_letter : List ℕ → ℕ
@@ -15,6 +16,7 @@ first_letter (x ∷ xs) = x
 abbrev letter_of : Job → ℕ
 letter_of Check = 99
 letter_of Group = 103
+letter_of (Run count seed) = 114
 letter_of (Walk count seed) = 119
 letter_of Emit = 101
 letter_of (Play most) = 112
@@ -24,6 +26,7 @@ letter_of (Make count seed) = 109
 letter : (g : Given) (job : Job) → IsJobOf g job → option_map_or first_letter g.job 0 ≡ letter_of job
 letter g Check is = ap (λ t. option_map_or first_letter t 0) is.0
 letter g Group is = ap (λ t. option_map_or first_letter t 0) is.0
+letter g (Run count seed) is = ap (λ t. option_map_or first_letter t 0) is.0
 letter g (Walk count seed) is = ap (λ t. option_map_or first_letter t 0) is.0
 letter g Emit is = ap (λ t. option_map_or first_letter t 0) is.0
 letter g (Play most) is = ap (λ t. option_map_or first_letter t 0) is.0
@@ -51,42 +54,17 @@ same_some a b is = cc
 -- texts ask for one job: of two, where their letters are the same
 one_job : (g : Given) (a b : Job) → letter_of a ≡ letter_of b → IsJobOf g a → IsJobOf g b → a ≡ b
 one_job g Check Check same p q = refl
-one_job g Check Group same p q = absurd (omega (arith, same))
-one_job g Check (Walk b t) same p q = absurd (omega (arith, same))
-one_job g Check Emit same p q = absurd (omega (arith, same))
-one_job g Check (Play b) same p q = absurd (omega (arith, same))
-one_job g Check (Make b t) same p q = absurd (omega (arith, same))
-one_job g Group Check same p q = absurd (omega (arith, same))
 one_job g Group Group same p q = refl
-one_job g Group (Walk b t) same p q = absurd (omega (arith, same))
-one_job g Group Emit same p q = absurd (omega (arith, same))
-one_job g Group (Play b) same p q = absurd (omega (arith, same))
-one_job g Group (Make b t) same p q = absurd (omega (arith, same))
-one_job g (Walk a s) Check same p q = absurd (omega (arith, same))
-one_job g (Walk a s) Group same p q = absurd (omega (arith, same))
+one_job g (Run a s) (Run b t) same p q = ap₂ (λ x y. Run x y) (counts_once g.count a b p.1 q.1) (seeds_once g.seed s t p.2 q.2)
 one_job g (Walk a s) (Walk b t) same p q = ap₂ (λ x y. Walk x y) (counts_once g.count a b p.1 q.1) (seeds_once g.seed s t p.2 q.2)
-one_job g (Walk a s) Emit same p q = absurd (omega (arith, same))
-one_job g (Walk a s) (Play b) same p q = absurd (omega (arith, same))
-one_job g (Walk a s) (Make b t) same p q = absurd (omega (arith, same))
-one_job g Emit Check same p q = absurd (omega (arith, same))
-one_job g Emit Group same p q = absurd (omega (arith, same))
-one_job g Emit (Walk b t) same p q = absurd (omega (arith, same))
 one_job g Emit Emit same p q = refl
-one_job g Emit (Play b) same p q = absurd (omega (arith, same))
-one_job g Emit (Make b t) same p q = absurd (omega (arith, same))
-one_job g (Play a) Check same p q = absurd (omega (arith, same))
-one_job g (Play a) Group same p q = absurd (omega (arith, same))
-one_job g (Play a) (Walk b t) same p q = absurd (omega (arith, same))
-one_job g (Play a) Emit same p q = absurd (omega (arith, same))
 one_job g (Play a) (Play b) same p q = ap Play (mosts_once g.count a b p.1 q.1)
-one_job g (Play a) (Make b t) same p q = absurd (omega (arith, same))
-one_job g (Make a s) Check same p q = absurd (omega (arith, same))
-one_job g (Make a s) Group same p q = absurd (omega (arith, same))
-one_job g (Make a s) (Walk b t) same p q = absurd (omega (arith, same))
-one_job g (Make a s) Emit same p q = absurd (omega (arith, same))
-one_job g (Make a s) (Play b) same p q = absurd (omega (arith, same))
 one_job g (Make a s) (Make b t) same p q = ap₂ (λ x y. Make x y) (same_some a b (counts_once g.count (Some a) (Some b) p.1 q.1)) (seeds_once g.seed s t p.2 q.2)
+one_job g a b same p q = absurd (omega (arith, same))
 
--- words ask for one job
-pub asks_once : (words : List (List ℕ)) (a b : Job) → AsksFor words a → AsksFor words b → a ≡ b
-asks_once words a b p q = one_job _ a b (sym (letter _ a p.1) ∙ letter _ b q.1) p.1 q.1
+job_once : (g : Given) (a b : Job) → IsJobOf g a → IsJobOf g b → a ≡ b
+job_once g a b p q = one_job g a b (sym (letter g a p) ∙ letter g b q) p q
+
+-- words ask for one thing
+pub asks_once : (words : List (List ℕ)) (a b : Asked) → AsksFor words a → AsksFor words b → a ≡ b
+asks_once words a b p q = λ i. record { job = job_once (given_in words) a.job b.job p.1 q.1 i; json = (p.2 ∙ sym q.2) i }

@@ -1,4 +1,4 @@
-//! The jobs, and the words that ask for them.
+//! The jobs, and the words that ask for them and for the form of their answers.
 
 ghost use Rattle.std.specs.Prelude.{◌≡◌, map, string_bytes, Some, codes, IfOk, MatchOption};
 ghost use Rattle.hem_words.specs.declared.job.Job.{Job};
@@ -16,6 +16,9 @@ pub enum Job {
     Check,
     /// To print a history by transactions, by the word `group`.
     Group,
+    /// To go on by a thread for each object to the end, by the word `run`. With a count so many generated requests come after
+    /// those of the document.
+    Run { count: Option<u32>, seed: u64 },
     /// To go on by one thread to the end, by the word `walk`. With a count so many generated requests come after those of
     /// the document.
     Walk { count: Option<u32>, seed: u64 },
@@ -27,6 +30,13 @@ pub enum Job {
     Make { count: u32, seed: u64 },
 }
 
+/// What the program is asked for: a job, and whether its answer is to be in JSON form.
+#[derive(Clone, Copy, Debug, PartialEq, Eq)]
+pub struct Asked {
+    pub job: Job,
+    pub json: bool,
+}
+
 /// The job of a word that takes no option.
 fn plain(given: &Given<'_>, job: Job) -> Option<Job>
     ensures check { given.now.job ≡ Some (codes "check") → job ≡ Job.Check → MatchOption result ((j : Job) → ¬ IsJobOf given.now j) (IsJobOf given.now) }
@@ -36,6 +46,23 @@ fn plain(given: &Given<'_>, job: Job) -> Option<Job>
     match (given.count, given.seed) {
         (None, None) => Some(job),
         _ => None,
+    }
+}
+
+/// A run with these options: a seed stands only where there is a count.
+fn run(given: &Given<'_>) -> Option<Job>
+    ensures { (given.now.job ≡ Some (codes "run")) → MatchOption result ((j : Job) → ¬ IsJobOf given.now j) (IsJobOf given.now) }
+{
+    match (given.count, given.seed) {
+        (Some(text), seed) => Some(Job::Run {
+            count: Some(count_of(text)?),
+            seed: seed_of(seed)?,
+        }),
+        (None, None) => Some(Job::Run {
+            count: None,
+            seed: 1,
+        }),
+        (None, Some(_)) => None,
     }
 }
 
@@ -82,6 +109,7 @@ fn job_given(given: &Given<'_>) -> Option<Job>
     match given.job? {
         "check" => plain(given, Job::Check),
         "group" => plain(given, Job::Group),
+        "run" => run(given),
         "walk" => walk(given),
         "emit" => plain(given, Job::Emit),
         "play" => play(given),
@@ -90,12 +118,22 @@ fn job_given(given: &Given<'_>) -> Option<Job>
     }
 }
 
-/// The job that the words ask for: the words after the program's name.
-pub fn job_of(alloc: Global, words: &[String]) -> Result<Option<Job>, OutOfMemory>
-    ensures { IfOk result (λ job. MatchOption job (¬ IsGood (map string_bytes words.now)) (AsksFor (map string_bytes words.now))) }
+/// What the texts and the flag ask for.
+fn asked_for(given: &Given<'_>) -> Option<Asked>
+    ensures { MatchOption result ((job : Job) → ¬ IsJobOf given.now job) (λ asked. IsJobOf given.now asked.job × (asked.json ≡ given.now.json)) }
+{
+    Some(Asked {
+        job: job_given(given)?,
+        json: given.json,
+    })
+}
+
+/// What the words ask for: the words after the program's name.
+pub fn job_of(alloc: Global, words: &[String]) -> Result<Option<Asked>, OutOfMemory>
+    ensures { IfOk result (λ asked. MatchOption asked (¬ IsGood (map string_bytes words.now)) (AsksFor (map string_bytes words.now))) }
 {
     match read_words(alloc, words)? {
-        Some(given) => Ok(job_given(&given)),
+        Some(given) => Ok(asked_for(&given)),
         None => Ok(None),
     }
 }

@@ -1,4 +1,4 @@
-//! The words after the program's name, and the job that they ask for.
+//! The words after the program's name, and what they ask for: a job, and the form of its answer.
 #![tactic(auto)]
 
 mod command;
@@ -6,5 +6,5 @@ mod job;
 mod laws;
 mod numbers;
 
-pub use job::{Job, job_of};
+pub use job::{Asked, Job, job_of};
 pub use laws::words_ask_for_one_job;

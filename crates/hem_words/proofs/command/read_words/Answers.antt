@@ -9,7 +9,9 @@ returns-in-Ok-clause-taken c =
 pub returns-in-Ok-clause-given : goal.returns-in-Ok-clause-given
 returns-in-Ok-clause-given c =
     let words = map (λ s. string_bytes s) c.args.words.now in
-    all_given words _ _ _
+    all_given words _ _ _ _ _
     (c.get_str.ensures ∙ value_given _ words c.in-Ok.matches _ c.in_ok-command.ensures c.in-Ok.ensures.matches)
     (c.get_str-in-Ok.ensures ∙ value_given _ words c.in-Ok.matches _ c.in_ok-command.ensures c.in-Ok.ensures.matches)
     (c.get_str-in-Ok-2.ensures ∙ value_given _ words c.in-Ok.matches _ c.in_ok-command.ensures c.in-Ok.ensures.matches)
+    c.is_there.ensures
+    (c.get_str-in-Ok-3.ensures ∙ value_given _ words c.in-Ok.matches _ c.in_ok-command.ensures c.in-Ok.ensures.matches)
