@@ -29,3 +29,5 @@ mod tokens;
 mod transactions;
 #[cfg(test)]
 mod trees;
+#[cfg(test)]
+mod writes;

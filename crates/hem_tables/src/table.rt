@@ -10,7 +10,7 @@
 //! | `case NAME => STATUS` | `words WORD..`, `over BASE`, `| LINE` of the document, `> LINE` of the answer |
 //! | `rows WORD.. over BASE` | `NAME | CHANGES => STATUS ANSWER`: the base with changes |
 //! | `whole WORD..` | `NAME | DOCUMENT => STATUS ANSWER`: a whole document, with `/` for a line feed |
-//! | `cuts WORD.. over BASE` | `BYTES=LINE:COLUMN ..`: the first bytes of the base, and the place at which more is expected |
+//! | `cuts WORD.. over BASE` | `BYTES=LINE:COLUMN ..`: the first bytes of the base, and where more is expected; or `..=CAUSE` |
 //!
 //! A change is `N: LINES` (in place of line N), `N+: LINES` (behind it), `N-:` (without it) or `+: LINES` (at the end), with
 //! `/` between lines; `;` stands between changes. An answer of a row is lines with `/` between them, or `[NAME]`. The escapes
@@ -316,12 +316,13 @@ impl<'t> Table<'t> {
         Ok(())
     }
 
-    /// Adds the case of one cut: there more is expected.
+    /// Adds the case of one cut: there more is expected, unless another cause is named.
     fn cut(&mut self, line: usize, over: Over<'t>, name: &'t str) -> Result<(), Cause> {
-        let (bytes, place) = name.split_once('=').ok_or(Cause::Row)?;
+        let (bytes, wanted) = name.split_once('=').ok_or(Cause::Row)?;
+        let (place, cause) = wanted.split_once('=').unwrap_or((wanted, "expected"));
         let base = self.bases.get(over.base).ok_or(Cause::NoBase)?;
         let document = base.cut(self.alloc, bytes)?;
-        let text = format!(in self.alloc; "text {place} expected\n")?;
+        let text = format!(in self.alloc; "text {place} {cause}\n")?;
         self.cases.push(Case {
             line,
             name,
