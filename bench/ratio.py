@@ -20,7 +20,7 @@ RUNS = 5
 def words_of(path):
     """The words by which a document is run; the plain program has no job `check`."""
     with open(path, encoding='latin-1') as document:
-        named = re.match(r'# hem ((?:walk|emit|play|make)[a-z0-9= -]*)$', document.readline().rstrip('\r\n'))
+        named = re.match(r'# hem ((?:run|walk|emit|play|make)[a-z0-9= -]*)$', document.readline().rstrip('\r\n'))
     return named.group(1).split() if named else ['group']
 
 

@@ -41,6 +41,10 @@ for count in 10000 100000; do measure_by "walk --count $count --seed 7" load; do
 for size in 9999 99999; do measure_by 'walk --count 1' misses "$size"; done
 for size in 9999 99999; do measure_by 'walk --count 1' idle "$size"; done
 for size in 10000 100000; do measure_by walk misses "$size"; done
+# A run by workers, against the plain program's one thread.
+for count in 10000 100000; do measure_by "run --count $count --seed 7" load; done
+for size in 9999 99999; do measure_by 'run --count 1' misses "$size"; done
+for size in 9999 99999; do measure_by 'run --count 1' idle "$size"; done
 for count in 10000 100000; do measure_by "make --count $count" load; done
 for name in msi_inclusive mesi_inclusive msi_noninclusive mesi_noninclusive; do measure_by emit tree "$name"; done
 measure_by emit widest

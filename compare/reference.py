@@ -3,13 +3,18 @@
     python3 reference.py check < DOCUMENT
     python3 reference.py group < DOCUMENT
     python3 reference.py walk [--count N] [--seed N] < DOCUMENT
+    python3 reference.py run [--count N [--seed N]] < DOCUMENT
     python3 reference.py emit < DOCUMENT
     python3 reference.py play [--count N] < DOCUMENT
     python3 reference.py make --count N [--seed N] < DOCUMENT
 
-`answer(words, data)` gives the status and the text for any words and bytes. It shares
-nothing with the program: it is there to be compared with it.
+With `--json` each gives its answer as JSON. `answer(words, data)` gives the status and the text for any words and bytes. It
+shares nothing with the program: it is there to be compared with it.
+
+A run has many answers, one for each way in which its workers may take turns. The account gives that of the walk, which is
+the only one where no two orders of firings are possible. `runs.py` judges all others.
 """
+import json
 import sys
 
 import emitting
@@ -110,7 +115,7 @@ def play(text, asked):
     return 0, playing.play_lines(modules, state, played)
 
 
-JOBS = {'check': check, 'group': group, 'walk': walk, 'emit': emit, 'play': play, 'make': make}
+JOBS = {'check': check, 'group': group, 'run': walk, 'walk': walk, 'emit': emit, 'play': play, 'make': make}
 
 
 def verdict(asked, text):
@@ -129,10 +134,15 @@ def answer(given, data):
     asked = words.read(given)
     if asked is None:
         return 1, words.USAGE + '\n'
-    if len(data) > INPUT_LIMIT:
-        return 4, 'too long\n'
-    status, lines = verdict(asked, data.decode('latin-1'))
-    return status, '\n'.join(lines) + '\n'
+    status, lines = (4, ['too long']) if len(data) > INPUT_LIMIT else verdict(asked, data.decode('latin-1'))
+    return status, in_form(asked, status, lines)
+
+
+def in_form(asked, status, lines):
+    """The text of an answer in the form that is asked for."""
+    if asked.json:
+        return json.dumps({'lines': lines, 'status': status}, separators=(',', ':')) + '\n'
+    return '\n'.join(lines) + '\n'
 
 
 def main():

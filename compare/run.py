@@ -97,10 +97,14 @@ def word_lists():
     """Lists of words: of a job alone, with options that are good and not, and with what isn't of the language."""
     yield from [[], ['group'], ['check'], ['walk'], ['make'], ['group', 'group'], ['check', 'group'], ['check', 'check'],
                 ['emit'], ['play'], ['emit', 'play'],
-                ['frob'], ['--json'], ['group', '--json'], ['walk', '--json'], ['run'], ['group', ''],
+                ['frob'], ['--json'], ['group', '--json'], ['--json', 'walk'], ['run'], ['run', '--json'], ['group', ''],
+                ['check', '--json'], ['emit', '--json'], ['--json', 'play'], ['--json', 'group', '--json'],
+                ['group', '--json=true'], ['group', '--json', 'yes'], ['group', '--Json'], ['group', '--jso'],
+                ['group', '-json'], ['--', 'group', '--json'], ['--json', '--', 'group'], ['frob', '--json'],
+                ['walk', '--count', '--json'], ['--json', 'make', '--count', '2'], ['run', '--count=3', '--json'],
                 [''], ['Group'], ['group '], ['--', 'group'], ['group', '--'], ['--', '--'], ['--', 'group', '--'], ['-'],
                 ['Check'], ['check|group'], ['watch'], ['mux'], ['migrate'], ['help'], ['--help'], ['-h'], ['--version']]
-    for job in ('check', 'group', 'walk', 'emit', 'play', 'make'):
+    for job in ('check', 'group', 'run', 'walk', 'emit', 'play', 'make'):
         for options in (['--count', '1'], ['--seed', '1'], ['--seed', '1', '--count', '1'], ['--count=1', '--seed=1']):
             yield [job] + options
             yield options + [job]
@@ -113,7 +117,8 @@ def word_lists():
                    '\u0661', '--', '-', '=', '==1', '--seed', '--count', 'walk'):
         for words in (['walk', '--count', number], ['walk', '--count=' + number], ['walk', '--seed', number],
                       ['--seed=' + number, 'walk'], ['make', '--count', number], ['make', '--seed', number, '--count', '2'],
-                      ['play', '--count', number], ['play', '--seed', number], ['emit', '--count=' + number]):
+                      ['play', '--count', number], ['play', '--seed', number], ['emit', '--count=' + number],
+                      ['run', '--seed', number], ['run', '--count', '2', '--seed', number]):
             yield words
     yield from [['walk', '--count'], ['walk', '--seed'], ['--count', 'walk'], ['make', '--seed', '3'],
                 ['walk', '--cou', '3'], ['walk', '-c', '3'], ['walk', '-count', '3'], ['walk', '--Count', '3'],
@@ -138,7 +143,7 @@ def words_document(words):
     """A small document of the job among the words: with a history, but for the jobs that make their own."""
     if 'play' in words:
         return texts.data(modules.TINY)
-    ends = {'walk': 'history', 'make': 'history', 'emit': 'work'}
+    ends = {'run': 'history', 'walk': 'history', 'make': 'history', 'emit': 'work'}
     end = next((ends[word] for word in words if word in ends), None)
     return texts.data(texts.SMALL if end is None else texts.SMALL[:texts.SMALL.index(end)])
 

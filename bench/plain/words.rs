@@ -1,6 +1,6 @@
 //! The words after the program's name.
 
-pub const USAGE: &str = "usage: hem check|group|walk|emit|play|make [--count N] [--seed N]\n";
+pub const USAGE: &str = "usage: hem JOB [--json] [--count N] [--seed N]\n";
 const MOST_COUNT: u64 = 100_000;
 
 #[derive(Clone, Copy, PartialEq, Eq)]
@@ -55,6 +55,8 @@ pub fn read(words: &[&str]) -> Option<Asked> {
     let job = match job {
         "group" if count.is_none() && seed.is_none() => Job::Group,
         "walk" => Job::Walk,
+        // One thread in place of workers: what a run comes to, measured beside `hem run`.
+        "run" if count.is_some() || seed.is_none() => Job::Walk,
         "emit" if count.is_none() && seed.is_none() => Job::Emit,
         "play" if seed.is_none() => Job::Play,
         "make" if count.is_some() => Job::Make,

@@ -1,4 +1,8 @@
-"""Runs the program on a document, and tells what needs no document to be told."""
+"""The program's answer to a document, and what needs no document to be told.
+
+An answer is read in its JSON form alone, an object of `lines` and `status`: what `hem JOB --json` prints.
+"""
+import json
 import subprocess
 from collections import namedtuple
 
@@ -14,10 +18,36 @@ OUTSIDE = {
 }
 
 
+class NoAnswer(Exception):
+    """What was read is no answer in the JSON form."""
+
+
+def plain(words):
+    """The words without the one that asks for the JSON form."""
+    return [word for word in words if word != '--json']
+
+
+def of_json(data):
+    """The answer that bytes in the JSON form say."""
+    try:
+        said = json.loads(data)
+        lines, status = said['lines'], said['status']
+        if type(status) is int and all(type(line) is str for line in lines):
+            return Answer(status, ''.join(line + '\n' for line in lines))
+    except (ValueError, TypeError, KeyError):
+        pass
+    raise NoAnswer('this is no answer in the JSON form, as `hem JOB --json` prints it')
+
+
 def answer(path, words, document):
     """The status and the text that the program gives for words and a document."""
-    ran = subprocess.run([path] + words, input=document, stdout=subprocess.PIPE)
-    return Answer(ran.returncode, ran.stdout.decode('latin-1'))
+    ran = subprocess.run([path] + plain(words) + ['--json'], input=document, stdout=subprocess.PIPE)
+    if ran.returncode in OUTSIDE:
+        return Answer(ran.returncode, '')
+    got = of_json(ran.stdout)
+    if got.status != ran.returncode:
+        raise NoAnswer('the program ended with %d, and its answer says %d' % (ran.returncode, got.status))
+    return got
 
 
 def first_line(got):

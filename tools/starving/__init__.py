@@ -1,0 +1,1 @@
+"""The parts of `tools/memory`: the documents, and the two ways in which memory is wanting."""
