@@ -80,10 +80,15 @@ def firing_of(line):
     return reading.Firing(int(parts[0]), int(parts[1]), parts[2], int(parts[4]) if len(parts) > 3 else None)
 
 
+def journal_of(lines):
+    """The firings of the journal in an answer."""
+    return [firing_of(line) for line in lines[2:2 + int(lines[1].split(' ')[1])]]
+
+
 def fault_of_journal(protocol, nodes, work, lines):
     """What is wrong with an answer that has a journal, or nothing."""
-    count = int(lines[1].split(' ')[1])
-    journal = [firing_of(line) for line in lines[2:2 + count]]
+    journal = journal_of(lines)
+    count = len(journal)
     if count > 3 * len(nodes) * starts(work, nodes):
         return 'too many firings'
     state = system.start_state(protocol, nodes, work)
@@ -114,6 +119,11 @@ def fault_of_summary(nodes, work, lines):
     return None
 
 
+def fault_of_lines(protocol, nodes, work, asked, lines):
+    """What is wrong with the lines of an answer with status 0, or nothing."""
+    return fault_of_journal(protocol, nodes, work, lines) if asked.count is None else fault_of_summary(nodes, work, lines)
+
+
 def is_shipped(text):
     return text.split()[:1] == ['use'] and text.split()[1:2][0] in SHIPPED
 
@@ -132,7 +142,7 @@ def fault_of(program, given, document_bytes):
     lines = lines_of(asked, status, output)
     if lines is None:
         return 'another form', (status, '')
-    fault = fault_of_journal(protocol, nodes, work, lines) if asked.count is None else fault_of_summary(nodes, work, lines)
+    fault = fault_of_lines(protocol, nodes, work, asked, lines)
     if fault is None and asked.count is not None and is_shipped(text) and work.self_count == 0:
         walked = reference.answer(given, document_bytes)
         fault = None if data(walked[1]) == output else 'another summary than that of the walk'

@@ -1,6 +1,8 @@
 """Goes through a document as its job does, and hands what it finds to the part that tells it."""
 import emitting
 import playing
+import reference
+import runs
 import walking
 from discipline import first_broken, template
 from reading import Fault, Reader
@@ -87,3 +89,14 @@ def of_work(text, asked):
     if asked.count is not None:
         return walks.summed_up(work, journal, state, asked.seed)
     return walks.walked(protocol, nodes, work, journal, state, asked.seed)
+
+
+def of_run(asked, document, lines):
+    """The lines for a run by workers, by the lines of its answer."""
+    protocol, nodes, work = reference.work_asked_for(document.decode('latin-1'), asked)
+    if asked.count is not None:
+        return walks.run_summed_up(work, asked.seed, lines[0], int(lines[2].split(' ')[1]))
+    journal = runs.journal_of(lines)
+    state = start_state(protocol, nodes, work)
+    replay(protocol, state, journal)
+    return walks.ran(protocol, nodes, work, journal, state)

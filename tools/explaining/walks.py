@@ -1,4 +1,4 @@
-"""A plain account of a walk, and of a document that is made."""
+"""A plain account of a walk, of a run by workers, and of a document that is made."""
 from collections import Counter
 
 import system
@@ -13,9 +13,17 @@ SHOWN = 24
 
 def walked(protocol, nodes, work, journal, state, seed):
     """The lines for a walk whose journal, blocks and state are the answer."""
+    return made_by('The walk from the seed %d makes' % seed, protocol, nodes, work, journal, state)
+
+
+def ran(protocol, nodes, work, journal, state):
+    """The lines for a run by workers whose journal, blocks and state are the answer."""
+    return made_by('The workers make', protocol, nodes, work, journal, state)
+
+
+def made_by(who_makes, protocol, nodes, work, journal, state):
     numbers, _ = system.replay(protocol, system.start_state(protocol, nodes, work), journal)
-    lines = ['The walk from the seed %d makes %s, of %s.'
-             % (seed, counted(len(journal), 'firing'), counted(len(set(numbers)), 'transaction'))]
+    lines = ['%s %s, of %s.' % (who_makes, counted(len(journal), 'firing'), counted(len(set(numbers)), 'transaction'))]
     lines += [regrouped(numbers)] * bool(journal) + ended(state) + why_over(protocol, work, state) + ['']
     return lines + object_accounts(state)
 
@@ -52,10 +60,21 @@ def summed_up(work, journal, state, seed):
     """The lines for a walk of which the summary alone is the answer."""
     lines = requests_lines(work, seed)
     lines += ['The walk, from the same seed anew, makes %s.' % counted(len(journal), 'firing')] + ended(state)
-    requests, answers = walking.requests_of(work), walking.answers_of(state)
+    return lines + answered(walking.requests_of(work), walking.answers_of(state))
+
+
+def run_summed_up(work, seed, word, answers):
+    """The lines for a run by workers of which the summary alone is the answer."""
+    ends = 'It ends quiet: no message waits but answers, and no lock is held.' if word == 'quiet' else \
+        'It ends stuck: a message waits or a lock is held, and nothing is possible any more.'
+    return requests_lines(work, seed) + [ends] + answered(walking.requests_of(work), answers)
+
+
+def answered(requests, answers):
+    """How many of the requests are answered."""
     if answers == requests:
-        return lines + ['Each request is answered.']
-    return lines + ['Of %s, %s answered.' % (counted(requests, 'request'), '1 is' if answers == 1 else '%d are' % answers)]
+        return ['Each request is answered.']
+    return ['Of %s, %s answered.' % (counted(requests, 'request'), '1 is' if answers == 1 else '%d are' % answers)]
 
 
 def made(work, seed):
