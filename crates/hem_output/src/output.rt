@@ -1,6 +1,6 @@
 //! A text that grows at its end.
 
-ghost use Rattle.std.specs.Prelude.{◌≡◌, [], ◌++◌, IfOk, OnOk, IsTrue, codes, decimal};
+ghost use Rattle.std.specs.Prelude.{◌≡◌, [], ◌++◌, IfOk, OnOk, OnErr, IsTrue, codes, decimal};
 ghost use Rattle.std.specs.String.{string_bytes};
 ghost use Rattle.hem_base.specs.Words.{word_bytes, is_word_text};
 
@@ -9,8 +9,7 @@ use itoa::Buffer;
 use std::alloc::Global;
 use std::marker::Model;
 
-/// A text that grows at its end, seen as its bytes. Where an append fails for want of memory, nothing is said of
-/// the text.
+/// A text that grows at its end, seen as its bytes. Where an append fails for want of memory, the text stays as it was.
 #[derive(Drop)]
 pub struct Output {
     bytes: Vec<u8>,
@@ -56,7 +55,8 @@ impl Output {
 
     /// Appends a text.
     pub fn text(&mut self, text: &str) -> Result<(), OutOfMemory>
-        ensures { OnOk result (self.new ≡ self.old ++ text.now) }
+        ensures ok { OnOk result (self.new ≡ self.old ++ text.now) }
+        ensures err { OnErr result (self.new ≡ self.old) }
     {
         self.bytes.extend_from_slice(text.as_bytes())?;
         Ok(())
@@ -64,7 +64,8 @@ impl Output {
 
     /// Appends a number in decimal.
     pub fn number(&mut self, number: u64) -> Result<(), OutOfMemory>
-        ensures { OnOk result (self.new ≡ self.old ++ decimal number) }
+        ensures ok { OnOk result (self.new ≡ self.old ++ decimal number) }
+        ensures err { OnErr result (self.new ≡ self.old) }
     {
         let mut buffer = Buffer::new();
         self.text(buffer.format(number))
@@ -73,7 +74,8 @@ impl Output {
     /// Appends a word: letters, digits and `_`, of which the first is a letter.
     fn letters(&mut self, word: &[u8]) -> Result<(), OutOfMemory>
         requires { IsTrue (is_word_text word.now) }
-        ensures { OnOk result (self.new ≡ self.old ++ word.now) }
+        ensures ok { OnOk result (self.new ≡ self.old ++ word.now) }
+        ensures err { OnErr result (self.new ≡ self.old) }
     {
         self.bytes.extend_from_slice(word)?;
         Ok(())
@@ -82,21 +84,24 @@ impl Output {
     /// Appends a name that is a word, as every declared name is.
     pub fn name(&mut self, name: &Name) -> Result<(), OutOfMemory>
         requires { IsTrue (is_word_text name.now) }
-        ensures { OnOk result (self.new ≡ self.old ++ name.now) }
+        ensures ok { OnOk result (self.new ≡ self.old ++ name.now) }
+        ensures err { OnErr result (self.new ≡ self.old) }
     {
         self.letters(name.as_bytes())
     }
 
     /// Appends a reserved word.
     pub fn word(&mut self, word: Reserved) -> Result<(), OutOfMemory>
-        ensures { OnOk result (self.new ≡ self.old ++ word_bytes word) }
+        ensures ok { OnOk result (self.new ≡ self.old ++ word_bytes word) }
+        ensures err { OnErr result (self.new ≡ self.old) }
     {
         self.letters(word_bytes(word))
     }
 
     /// Ends a line.
     pub fn end_line(&mut self) -> Result<(), OutOfMemory>
-        ensures { OnOk result (self.new ≡ self.old ++ codes "\n") }
+        ensures ok { OnOk result (self.new ≡ self.old ++ codes "\n") }
+        ensures err { OnErr result (self.new ≡ self.old) }
     {
         self.text("\n")
     }

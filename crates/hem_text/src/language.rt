@@ -1,6 +1,6 @@
 //! What a reader asks of a grammar.
 
-ghost use Rattle.std.specs.Prelude.{◌≡◌, OnOk, IsTrue};
+ghost use Rattle.std.specs.Prelude.{◌≡◌, OnOk, OnErr, IsTrue};
 ghost use Rattle.hem_text.specs.Grammars.{Grammar};
 
 use crate::{Lexeme, Stands, Symbol};
@@ -39,10 +39,11 @@ pub trait Language {
     fn is_fresh(&self, terminal: Self::Terminal, token: &Lexeme<'_>) -> bool
         ensures { result ≡ grammar.is_fresh self.now terminal token.now };
 
-    /// Takes in a token.
+    /// Takes in a token. Where memory is wanted, what was read stays as it was.
     fn read(&mut self, terminal: Self::Terminal, token: &Lexeme<'_>) -> Result<(), OutOfMemory>
         requires spelled { IsTrue (grammar.spells self.old terminal token.now) }
         requires within { IsTrue (grammar.is_within self.old terminal token.now) }
         requires fresh { IsTrue (grammar.is_fresh self.old terminal token.now) }
-        ensures { OnOk result (self.new ≡ grammar.after self.old terminal token.now) };
+        ensures ok { OnOk result (self.new ≡ grammar.after self.old terminal token.now) }
+        ensures err { OnErr result (self.new ≡ self.old) };
 }

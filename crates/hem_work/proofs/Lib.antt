@@ -4,3 +4,4 @@ pub mod Totals
 pub mod Fits
 pub mod Generated
 pub mod MadeFits
+pub mod Drafts

@@ -77,10 +77,14 @@ is_within e the.Line t = nat_le (number_of t.text) most_number
 is_within e the.Value t = nat_le (number_of t.text) most_value
 is_within e _ t = true
 
+-- the entry at a place with one more request
+abbrev pub with_request_at : List RawEntry → ℕ → Option RawEntry → Message × Place → List RawEntry
+with_request_at entries at None r = entries
+with_request_at entries at (Some e) r = slice_set entries at (record e { requests = e.requests ++ r ∷ [] })
+
 -- the last entry with one more request
 abbrev pub with_request : List RawEntry → Option RawEntry → Message × Place → List RawEntry
-with_request entries None r = entries
-with_request entries (Some e) r = slice_set entries (length entries - 1) (record e { requests = e.requests ++ r ∷ [] })
+with_request entries e r = with_request_at entries (length entries - 1) e r
 
 -- what a token says
 abbrev pub after : Read → Terminal → Lexeme → Read

@@ -1,7 +1,7 @@
 //! The grammar of works.
 
-ghost use Rattle.std.specs.Prelude.{◌≡◌, IfOk};
-ghost use Rattle.hem_work.specs.Grammar.{start, firsts, follows, stands, id_of, grammar, nothing};
+ghost use Rattle.std.specs.Prelude.{◌≡◌, ◌-◌, ◌<◌, IfOk, OnOk, OnErr, length, slice_get};
+ghost use Rattle.hem_work.specs.Grammar.{start, firsts, follows, stands, id_of, with_request, with_request_at, grammar, nothing};
 
 use crate::limits::{MOST_NUMBER, MOST_VALUE};
 use crate::raw::RawEntry;
@@ -107,6 +107,35 @@ fn id_of(messages: &Named<Class>, text: &[u8]) -> Result<MsgId, OutOfMemory>
     }
 }
 
+/// Puts a request at the end of those of an entry that is there. Where memory is wanted the entries stay as they were.
+#[tactic(auto, using(crate::proofs::Drafts::set_get_same))]
+fn add_request_at(
+    entries: &mut List<RawEntry>,
+    at: usize,
+    request: (Message, Place),
+) -> Result<(), OutOfMemory>
+    requires { at < length entries.old }
+    ensures ok { OnOk result (entries.new ≡ with_request_at entries.old at (slice_get entries.old at) request) }
+    ensures err { OnErr result (entries.new ≡ entries.old) }
+{
+    let entry = entries.at_mut(at);
+    entry.requests.push(request)
+}
+
+/// Puts a request at the end of those of the last entry, where there is one. Where memory is wanted the entries stay as
+/// they were.
+fn add_request(entries: &mut List<RawEntry>, request: (Message, Place)) -> Result<(), OutOfMemory>
+    ensures ok { OnOk result (entries.new ≡ with_request entries.old (slice_get entries.old (length entries.old - 1)) request) }
+    ensures err { OnErr result (entries.new ≡ entries.old) }
+{
+    let len = entries.len();
+    if len > 0 {
+        add_request_at(entries, len - 1, request)
+    } else {
+        Ok(())
+    }
+}
+
 impl<'a> Language for WorkDraft<'a> {
     type Terminal = Terminal;
 
@@ -205,13 +234,7 @@ impl<'a> Language for WorkDraft<'a> {
             Terminal::Value => {
                 let (id, at) = self.message;
                 let value = value_of(token.text());
-                let len = self.entries.len();
-                if len > 0 {
-                    self.entries
-                        .at_mut(len - 1)
-                        .requests
-                        .push((Message { id, value }, at))?;
-                }
+                add_request(&mut self.entries, (Message { id, value }, at))?;
             }
             _ => {}
         }
