@@ -36,23 +36,23 @@ impl<'p> Model for Choice<'p> {
 
 /// What an object chooses by on a line, beside its local state.
 #[derive(Drop)]
-pub struct Sight {
+pub struct Sight<'a> {
     /// The first request of the processor, where there is one.
     pub asked: Option<Message>,
     /// What is known of the edges.
-    pub look: Look,
+    pub look: &'a Look,
     /// Whether all self firings are made.
     pub spent: bool,
     /// The last stamp.
     pub last: u64,
 }
 
-impl Model for Sight {
+impl<'a> Model for Sight<'a> {
     ghost use Rattle.hem_choice.specs.Choices.{Sight as Seen};
 
     ghost Value = { Seen };
 
-    ghost view = { λ s. record { asked = s.asked; look = s.look; spent = s.spent; last = s.last } };
+    ghost view = { λ s. record { asked = s.asked; look = s.look.now; spent = s.spent; last = s.last } };
 }
 
 /// The message of what was carried.
@@ -106,7 +106,7 @@ fn may_send(look: &Look, to: To) -> bool
     }
 }
 
-impl Sight {
+impl<'a> Sight<'a> {
     /// Whether a rule takes nothing, and all self firings are made.
     fn is_spent(&self, take: Take) -> bool
         ensures { result ≡ is_spent self.now take }
@@ -119,7 +119,7 @@ impl Sight {
         ensures { result ≡ heads_of self.now me }
     {
         let request = match me {
-            Some(_) => message_in(request_of(&self.look, me)),
+            Some(_) => message_in(request_of(self.look, me)),
             None => self.asked,
         };
         Heads {
@@ -134,10 +134,10 @@ impl Sight {
     fn choose_by<'p>(&self, rule: &'p Rule, me: Option<u8>, plan: Plan) -> Option<Choice<'p>>
         ensures { result ≡ choice_by self.now rule.now me plan }
     {
-        if !may_send(&self.look, plan.outs.to) {
+        if !may_send(self.look, plan.outs.to) {
             return None;
         }
-        match stamp_after(self.last, &self.look, me, &plan.outs) {
+        match stamp_after(self.last, self.look, me, &plan.outs) {
             Some(stamp) => Some(Choice {
                 rule,
                 me,
@@ -226,7 +226,8 @@ impl Sight {
     }
 
     /// The first firing of a rule that may be made: with no child named, or else with the first child.
-    fn choose_of<'p>(
+    #[inline(never)]
+    fn choose_any<'p>(
         &self,
         p: &Protocol,
         kind: Kind,
@@ -240,6 +241,24 @@ impl Sight {
             Some(choice) => Some(choice),
             None => self.choose_below(p, kind, local, rule),
         }
+    }
+
+    /// The same: what all firings of a rule ask first is tried before all else.
+    #[inline(always)]
+    fn choose_of<'p>(
+        &self,
+        p: &Protocol,
+        kind: Kind,
+        local: &Local,
+        rule: &'p Rule,
+    ) -> Option<Choice<'p>>
+        requires { length self.now.look.kids ≤ 8 }
+        ensures { result ≡ choice_of p.now kind local.now self.now rule.now }
+    {
+        if !self.may_try(local, rule) {
+            return None;
+        }
+        self.choose_any(p, kind, local, rule)
     }
 
     /// The first firing that may be made, in the order of the rules: one that is possible with what is known, with a slot

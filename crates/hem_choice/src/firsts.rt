@@ -1,13 +1,16 @@
 //! What a firing asks first. It is cheap, and most rules fail it.
 
-ghost use Rattle.std.specs.Prelude.{◌≡◌, ◌&&◌};
+ghost use Rattle.std.specs.Prelude.{◌≡◌, ◌&&◌, ◌||◌};
+ghost use Rattle.std.specs.List.{list_any};
 ghost use Rattle.hem_fire.specs.Heads.{has_id};
 ghost use Rattle.hem_walk.specs.Firsts.{is_open, names_child};
-ghost use Rattle.hem_choice.specs.Firsts.{asks_alone, asks_child};
+ghost use Rattle.hem_choice.specs.Choices.{message_in};
+ghost use Rattle.hem_choice.specs.Firsts.{asks_alone, asks_child, asks_some_child};
 
 use crate::choice::{Sight, message_in};
 use crate::stamps::request_of;
 use hem_base::{Message, MsgId};
+use hem_ends::KidLook;
 use hem_object::Local;
 use hem_syntax::{Rule, Take};
 use hem_walk::is_open;
@@ -29,15 +32,29 @@ pub(crate) fn names_child(take: Take) -> bool
     matches!(take, Take::Me(_))
 }
 
-impl Sight {
+/// Whether the first known request of a child has the id.
+fn some_asks(kids: &[KidLook], id: MsgId) -> bool
+    ensures { result ≡ list_any (λ kid. has_id (message_in kid.request) id) kids.now }
+{
+    kids.iter().any(|kid| has_id(message_in(kid.request), id))
+}
+
+/// Whether the first known response of a child has the id.
+fn some_answers(kids: &[KidLook], id: MsgId) -> bool
+    ensures { result ≡ list_any (λ kid. has_id (message_in kid.response) id) kids.now }
+{
+    kids.iter().any(|kid| has_id(message_in(kid.response), id))
+}
+
+impl<'a> Sight<'a> {
     /// Whether there is what a firing asks first that takes so and names no child.
-    fn asks_alone(&self, local: &Local, take: Take) -> bool
-        ensures { result ≡ asks_alone self.now local.now take }
+    fn asks_alone(&self, take: Take) -> bool
+        ensures { result ≡ asks_alone self.now take }
     {
         match take {
             Take::Me(id) => has_id(self.asked, id),
             Take::Parent(id) => has_id(message_in(self.look.parent), id),
-            Take::Kids(_) => local.down.is_some(),
+            Take::Kids(id) => some_answers(self.look.kids.as_slice(), id),
             Take::Nothing => !self.spent,
         }
     }
@@ -47,18 +64,44 @@ impl Sight {
         ensures { result ≡ asks_child self.now take place }
     {
         match take {
-            Take::Me(id) => has_id(message_in(request_of(&self.look, Some(place))), id),
+            Take::Me(id) => has_id(message_in(request_of(self.look, Some(place))), id),
             _ => false,
         }
+    }
+
+    /// Whether there is what a firing asks first that takes so and names some child.
+    fn asks_some_child(&self, take: Take) -> bool
+        ensures { result ≡ asks_some_child self.now take }
+    {
+        match take {
+            Take::Me(id) => some_asks(self.look.kids.as_slice(), id),
+            _ => false,
+        }
+    }
+
+    /// Whether there is what a firing asks first that takes so, whomever it names.
+    fn asks_any(&self, take: Take) -> bool
+        ensures { result ≡ (asks_alone self.now take || asks_some_child self.now take) }
+    {
+        self.asks_alone(take) || self.asks_some_child(take)
+    }
+
+    /// Whether a firing of a rule has what it asks first, whomever it names, and the rule's locks and fields are as it needs
+    /// them.
+    #[inline(always)]
+    pub(crate) fn may_try(&self, local: &Local, rule: &Rule) -> bool
+        ensures { result ≡ ((asks_alone self.now rule.now.take || asks_some_child self.now rule.now.take) && is_open rule.now local.now) }
+    {
+        self.asks_any(rule.take) && is_open(rule, local)
     }
 
     /// Whether a firing of a rule that names no child has what it asks first, and the rule's locks and fields are as it needs
     /// them.
     #[inline(always)]
     pub(crate) fn may_begin(&self, local: &Local, rule: &Rule) -> bool
-        ensures { result ≡ (asks_alone self.now local.now rule.now.take && is_open rule.now local.now) }
+        ensures { result ≡ (asks_alone self.now rule.now.take && is_open rule.now local.now) }
     {
-        self.asks_alone(local, rule.take) && is_open(rule, local)
+        self.asks_alone(rule.take) && is_open(rule, local)
     }
 
     /// The same of one that names the child at a place.

@@ -105,18 +105,16 @@ fn look_at<N: Net>(kids: &mut List<KidEnds<N>>, place: usize) -> KidLook
     kid.look()
 }
 
-/// What is known of the edges to all children, in order.
-#[inline(always)]
-pub(crate) fn look_at_all<N: Net>(kids: &mut List<KidEnds<N>>) -> ArrayVec<KidLook, 8>
+/// Puts into `looks` what is known of the edges to all children, in order.
+pub(crate) fn look_at_all<N: Net>(kids: &mut List<KidEnds<N>>, looks: &mut ArrayVec<KidLook, 8>)
     requires { length kids.old ≤ 8 }
     ensures looked { AreKids (λ k. IsKidLooked) kids.old kids.new }
-    ensures seen { result.items ≡ map kid_look kids.new }
+    ensures seen { looks.new.items ≡ map kid_look kids.new }
 {
-    let mut looks = ArrayVec::<KidLook, 8>::new();
+    looks.clear();
     for place in 0..kids.len() {
         looks.push(look_at(kids, place));
     }
-    looks
 }
 
 /// Takes from the child at a place.

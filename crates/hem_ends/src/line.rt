@@ -1,9 +1,8 @@
 //! All ends of an object on a line.
 
-ghost use Rattle.std.specs.Prelude.{◌≡◌, ◌≤◌, length};
+ghost use Rattle.std.specs.Prelude.{◌≡◌, ◌≤◌, length, [], None, false};
 ghost use Rattle.hem_ends.specs.Ends.{look_of, head_of, goes_up_request, goes_up_response, IsPeeked, IsReserved, IsTaken, IsGiven, IsAsked, HasHead, HoldsSlot, IfThere, BothOrNeither, IsLooked, HasHeads, AreTaken, HoldsSlots, AreGiven};
 ghost use Rattle.std.specs.Option.{option_map_or};
-ghost use Rattle.std.specs.Prelude.{None, false};
 
 use crate::kids::{KidEnds, KidLook, look_at_all, put_if, put_to_all, take_from_all, take_if};
 use arrayvec::ArrayVec;
@@ -52,6 +51,20 @@ impl Model for Look {
     ghost Value = { Seen };
 
     ghost view = { λ a. record { parent = a.parent; up_request = a.up_request; up_response = a.up_response; kids = a.kids.items } };
+}
+
+impl Look {
+    /// Nothing is known of any edge.
+    pub fn new() -> Look
+        ensures { result ≡ record { parent = None; up_request = false; up_response = false; kids = [] } }
+    {
+        Look {
+            parent: None,
+            up_request: false,
+            up_response: false,
+            kids: ArrayVec::new(),
+        }
+    }
 }
 
 /// The first known message of an end, where the end is there.
@@ -112,23 +125,16 @@ fn goes_up_response(to: To) -> bool
 }
 
 impl<N: Net> LineEnds<N> {
-    /// What is known of all edges. It reserves a slot of each sending end that knows of a free one.
-    #[inline(always)]
-    pub fn look(&mut self) -> Look
+    /// Puts into `look` what is known of all edges. It reserves a slot of each sending end that knows of a free one.
+    pub fn look(&mut self, look: &mut Look)
         requires { length self.old.kids ≤ 8 }
         ensures looked { IsLooked self.old self.new }
-        ensures seen { result ≡ look_of self.new }
+        ensures seen { look.new ≡ look_of self.new }
     {
-        let parent = peek_there(&mut self.down);
-        let up_request = reserve_there(&mut self.up_requests);
-        let up_response = reserve_there(&mut self.up_responses);
-        let kids = look_at_all(&mut self.kids);
-        Look {
-            parent,
-            up_request,
-            up_response,
-            kids,
-        }
+        look.parent = peek_there(&mut self.down);
+        look.up_request = reserve_there(&mut self.up_requests);
+        look.up_response = reserve_there(&mut self.up_responses);
+        look_at_all(&mut self.kids, &mut look.kids);
     }
 
     /// Takes the parent's first message where that is wanted, the first request of the named child, and the first response

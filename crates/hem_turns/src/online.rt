@@ -6,7 +6,7 @@ ghost use Rattle.hem_turns.specs.OnLine.{IsReady, IsFired, HasFired, HaveFired, 
 
 use hem_base::{Carried, Firing, Gate, Kind, LineId, Message, ObjectId, OutOfMemory, Stamped};
 use hem_choice::{Choice, Sight};
-use hem_ends::LineEnds;
+use hem_ends::{LineEnds, Look};
 use hem_fire::To;
 use hem_object::Local;
 use hem_syntax::{Protocol, Take};
@@ -190,12 +190,12 @@ impl<N: Net> OnLine<N> {
 
     /// What the object chooses by. It reserves a slot of each sending end that knows of a free one.
     #[inline(always)]
-    fn see(&mut self, place: Place) -> Sight
+    fn see<'l>(&mut self, place: Place, look: &'l mut Look) -> Sight<'l>
         requires { length self.old.ends.kids ≤ 8 }
         ensures looked { IsSeen self.old self.new }
         ensures seen { result ≡ sight_of place.self_count self.new }
     {
-        let look = self.ends.look();
+        self.ends.look(look);
         Sight {
             asked: self.requests.as_slice().get(self.taken).copied(),
             look,
@@ -204,14 +204,22 @@ impl<N: Net> OnLine<N> {
         }
     }
 
-    /// Makes one firing, where one is possible on what the ends know. Tells whether there was one.
-    pub fn turn(&mut self, p: &Protocol, children: &[ObjectId], place: Place, line: LineId) -> bool
+    /// Makes one firing, where one is possible on what the ends know. Tells whether there was one. What `look` holds
+    /// doesn't matter: it is where the turn puts what it knows.
+    pub fn turn(
+        &mut self,
+        p: &Protocol,
+        children: &[ObjectId],
+        place: Place,
+        line: LineId,
+        look: &mut Look,
+    ) -> bool
         requires kids { length self.old.ends.kids ≤ 8 }
         requires room { 0 < self.old.room }
         ensures fired { IsTrue result → HasFired p.now place.kind place.self_count line place.object children.now self.old self.new }
         ensures idle { IsFalse result → IsIdle p.now place.kind place.self_count self.old self.new }
     {
-        let sight = self.see(place);
+        let sight = self.see(place, look);
         let Some(choice) = sight.choose(p, place.kind, &self.local) else {
             return false;
         };
@@ -227,7 +235,7 @@ impl<N: Net> OnLine<N> {
 
     /// Fires at most so many times, and passes the gate after each firing. It fires fewer times only where nothing is
     /// possible any more on what the ends know. `before` is how many firings the object made before. Tells how many times
-    /// it fired.
+    /// it fired. What `look` holds doesn't matter.
     pub fn fire_many<G: Gate>(
         &mut self,
         p: &Protocol,
@@ -236,6 +244,7 @@ impl<N: Net> OnLine<N> {
         line: LineId,
         gate: &G,
         burst: Burst,
+        look: &mut Look,
     ) -> u64
         requires kids { length self.old.ends.kids ≤ 8 }
         requires room { burst.most ≤ self.old.room }
@@ -243,7 +252,7 @@ impl<N: Net> OnLine<N> {
         ensures fired { HaveFired p.now place.kind place.self_count line place.object children.now result burst.most self.old self.new }
     {
         for fired in 0..burst.most {
-            if !self.turn(p, children, place, line) {
+            if !self.turn(p, children, place, line, look) {
                 return fired;
             }
             gate.pass(place.object.0, burst.before.saturating_add(fired + 1));

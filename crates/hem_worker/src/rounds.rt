@@ -6,6 +6,7 @@ ghost use Rattle.hem_worker.specs.Workers.{IsChangedAt, AreChanged, IsSameButRoo
 ghost use Rattle.hem_worker.specs.Rounds.{IsRoundOf};
 
 use hem_base::{Gate, LineId, List, ObjectId, OutOfMemory, Stamped};
+use hem_ends::Look;
 use hem_syntax::Protocol;
 use hem_turns::{Burst, OnLine, Place};
 use hem_wire::Net;
@@ -49,6 +50,7 @@ fn fire_at<N: Net, G: Gate>(
     place: Place,
     gate: &G,
     burst: Burst,
+    look: &mut Look,
 ) -> u64
     requires there { at < length lines.old }
     requires few { at < 2 ^ 32 }
@@ -58,7 +60,7 @@ fn fire_at<N: Net, G: Gate>(
     ensures fired { IsChangedAt (HaveFired p.now place.kind place.self_count (record { 0 = at }) place.object children.now result burst.most) at lines.old lines.new }
 {
     let line = lines.at_mut(at);
-    line.fire_many(p, children, place, LineId(at as u32), gate, burst)
+    line.fire_many(p, children, place, LineId(at as u32), gate, burst, look)
 }
 
 /// Fires at most so many times, on one line after another.
@@ -75,13 +77,14 @@ pub(crate) fn fire_all<N: Net, G: Gate>(
     requires room { HasRoom burst.most lines.old }
     ensures { IsRoundOf p.now place.kind place.self_count place.object children.now burst.most result lines.old lines.new }
 {
+    let mut look = Look::new();
     let mut fired = 0;
     for at in 0..lines.len() {
         let left = Burst {
             before: burst.before.saturating_add(fired),
             most: burst.most - fired,
         };
-        fired += fire_at(lines, at, p, children, place, gate, left);
+        fired += fire_at(lines, at, p, children, place, gate, left, &mut look);
     }
     fired
 }
