@@ -104,7 +104,8 @@ impl Draft {
         requires name { IsTrue (is_name token.now) }
         requires short { IsTrue (is_short token.now.text) }
         requires fresh { IsTrue (not (is_declared self.old token.now.text)) }
-        ensures { OnOk result (self.new ≡ record self.old { regs = self.old.regs ++ (token.now.text, 0) ∷ [] }) }
+        ensures ok { OnOk result (self.new ≡ record self.old { regs = self.old.regs ++ (token.now.text, 0) ∷ [] }) }
+        ensures err { OnErr result (self.new ≡ self.old) }
     {
         let name = name_of(token.text());
         self.regs.push(name, 0)?;
@@ -122,7 +123,8 @@ impl Draft {
         requires name { IsTrue (is_name token.now) }
         requires short { IsTrue (is_short token.now.text) }
         requires fresh { IsTrue (not (is_declared self.old token.now.text)) }
-        ensures { OnOk result (self.new ≡ record self.old { queues = self.old.queues ++ token.now.text ∷ [] }) }
+        ensures ok { OnOk result (self.new ≡ record self.old { queues = self.old.queues ++ token.now.text ∷ [] }) }
+        ensures err { OnErr result (self.new ≡ self.old) }
     {
         let name = name_of(token.text());
         self.queues.push(name)?;
@@ -158,7 +160,8 @@ impl Draft {
 
     /// Adds the clause that never holds.
     pub(crate) fn add_never(&mut self) -> Result<(), OutOfMemory>
-        ensures { OnOk result (self.new ≡ record self.old { clauses = self.old.clauses ++ record { atoms = [] } ∷ [] }) }
+        ensures ok { OnOk result (self.new ≡ record self.old { clauses = self.old.clauses ++ record { atoms = [] } ∷ [] }) }
+        ensures err { OnErr result (self.new ≡ self.old) }
     {
         let atoms = List::new(self.alloc);
         self.clauses.push(ModClause { atoms })

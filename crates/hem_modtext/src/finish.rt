@@ -2,14 +2,15 @@
 
 ghost use Rattle.std.specs.List.{list_any};
 ghost use Rattle.indexmap.specs.IndexSet.{spare};
-ghost use Rattle.std.specs.Prelude.{◌≡◌, ◌<◌, ◌∷◌, ◌++◌, [], Some, None, true, false, IsTrue, not, option_map, OnOk};
+ghost use Rattle.std.specs.Prelude.{◌≡◌, ◌<◌, ◌∷◌, ◌++◌, [], Some, None, true, false, IsTrue, not, option_map, OnOk, OnErr};
+ghost use Rattle.hem_syntax.specs.Names.{set_last};
 ghost use Rattle.hem_module.specs.Lawful.{has_atom, has_act, has_value};
 ghost use Rattle.hem_module.specs.declared.rules.Act.TheVariants as act;
 ghost use Rattle.hem_module.specs.declared.rules.ModValue.TheVariants as number;
 ghost use Rattle.hem_modtext.specs.Draft.{is_register, is_queue, is_twice, register_of, queue_of, with_number, with_id, with_sent_id, with_value, add_test, finish_test, finish_action, finish_rule, with_further, same_key};
 ghost use Rattle.hem_modtext.specs.Sound.{counts_in};
 
-use crate::draft::{Draft, copy_of};
+use crate::draft::{Draft, copy_of, name_of};
 use crate::effects::{push_further, with_id, with_number, with_sent_id, with_value};
 use crate::key::RuleKey;
 use crate::tokens::TestRole;
@@ -24,7 +25,8 @@ impl Draft {
     /// Adds a clause of this test.
     fn add_first(&mut self, atom: ModAtom) -> Result<(), OutOfMemory>
         requires { IsTrue (has_atom (counts_in self.old) atom) }
-        ensures { OnOk result (self.new ≡ record self.old { clauses = self.old.clauses ++ record { atoms = atom ∷ [] } ∷ []; atom = None }) }
+        ensures ok { OnOk result (self.new ≡ record self.old { clauses = self.old.clauses ++ record { atoms = atom ∷ [] } ∷ []; atom = None }) }
+        ensures err { OnErr result (self.new ≡ self.old) }
     {
         let mut atoms = List::new(self.alloc);
         atoms.push(atom)?;
@@ -36,7 +38,8 @@ impl Draft {
     /// Adds a test to the last clause, if there is one.
     fn add_further(&mut self, atom: ModAtom) -> Result<(), OutOfMemory>
         requires { IsTrue (has_atom (counts_in self.old) atom) }
-        ensures { OnOk result (self.new ≡ record self.old { clauses = with_further self.old.clauses atom; atom = None }) }
+        ensures ok { OnOk result (self.new ≡ record self.old { clauses = with_further self.old.clauses atom; atom = None }) }
+        ensures err { OnErr result (self.new ≡ self.old) }
     {
         push_further(&mut self.clauses, atom)?;
         self.atom = None;
@@ -46,7 +49,8 @@ impl Draft {
     /// Adds a test to the condition of the action.
     fn add_condition(&mut self, atom: ModAtom) -> Result<(), OutOfMemory>
         requires { IsTrue (has_atom (counts_in self.old) atom) }
-        ensures { OnOk result (self.new ≡ record self.old { cond = self.old.cond ++ atom ∷ []; atom = None }) }
+        ensures ok { OnOk result (self.new ≡ record self.old { cond = self.old.cond ++ atom ∷ []; atom = None }) }
+        ensures err { OnErr result (self.new ≡ self.old) }
     {
         self.cond.push(atom)?;
         self.atom = None;
@@ -56,7 +60,8 @@ impl Draft {
     /// Adds a test that is finished, where it is used.
     fn add_test(&mut self, role: TestRole, atom: ModAtom) -> Result<(), OutOfMemory>
         requires { IsTrue (has_atom (counts_in self.old) atom) }
-        ensures { OnOk result (self.new ≡ add_test self.old role atom) }
+        ensures ok { OnOk result (self.new ≡ add_test self.old role atom) }
+        ensures err { OnErr result (self.new ≡ self.old) }
     {
         match role {
             TestRole::First => self.add_first(atom),
@@ -67,7 +72,8 @@ impl Draft {
 
     /// Finishes the test that is being read, if one is, with this number.
     pub(crate) fn number_test(&mut self, role: TestRole, number: u64) -> Result<(), OutOfMemory>
-        ensures { OnOk result (self.new ≡ finish_test self.old role (option_map (λ a. with_number a number) self.old.atom)) }
+        ensures ok { OnOk result (self.new ≡ finish_test self.old role (option_map (λ a. with_number a number) self.old.atom)) }
+        ensures err { OnErr result (self.new ≡ self.old) }
     {
         match self.atom {
             Some(atom) => self.add_test(role, with_number(atom, number)),
@@ -77,7 +83,8 @@ impl Draft {
 
     /// Finishes the test that is being read, if one is, with this id.
     pub(crate) fn id_test(&mut self, role: TestRole, id: u32) -> Result<(), OutOfMemory>
-        ensures { OnOk result (self.new ≡ finish_test self.old role (option_map (λ a. with_id a id) self.old.atom)) }
+        ensures ok { OnOk result (self.new ≡ finish_test self.old role (option_map (λ a. with_id a id) self.old.atom)) }
+        ensures err { OnErr result (self.new ≡ self.old) }
     {
         match self.atom {
             Some(atom) => self.add_test(role, with_id(atom, id)),
@@ -85,13 +92,13 @@ impl Draft {
         }
     }
 
-    /// Adds an action that is finished.
+    /// Adds an action that is finished. Where memory is wanted, what was read stays as it was.
     fn add_action(&mut self, act: Act) -> Result<(), OutOfMemory>
         requires { IsTrue (has_act (counts_in self.old) act) }
-        ensures { OnOk result (self.new ≡ finish_action self.old (Some act)) }
+        ensures ok { OnOk result (self.new ≡ finish_action self.old (Some act)) }
+        ensures err { OnErr result (self.new ≡ self.old) }
     {
-        let cond = taken(self.alloc, &mut self.cond);
-        self.actions.push(Action { cond, act })?;
+        push_action(self.alloc, &mut self.actions, &mut self.cond, act)?;
         self.act = None;
         Ok(())
     }
@@ -99,7 +106,8 @@ impl Draft {
     /// Adds the action that lets a queue lose its head.
     pub(crate) fn add_loss(&mut self, token: &Lexeme<'_>) -> Result<(), OutOfMemory>
         requires { IsTrue (is_queue self.old token.now) }
-        ensures { OnOk result (self.new ≡ finish_action self.old (Some (act.Deq (queue_of self.old token.now.text)))) }
+        ensures ok { OnOk result (self.new ≡ finish_action self.old (Some (act.Deq (queue_of self.old token.now.text)))) }
+        ensures err { OnErr result (self.new ≡ self.old) }
     {
         let queue = self.queue_of(token.text());
         self.add_action(Act::Deq(queue))
@@ -136,7 +144,8 @@ impl Draft {
     /// Finishes the action that is being read, if one is, with this value.
     fn value_action(&mut self, value: ModValue) -> Result<(), OutOfMemory>
         requires { IsTrue (has_value (counts_in self.old) value) }
-        ensures { OnOk result (self.new ≡ finish_action self.old (option_map (λ a. with_value a value) self.old.act)) }
+        ensures ok { OnOk result (self.new ≡ finish_action self.old (option_map (λ a. with_value a value) self.old.act)) }
+        ensures err { OnErr result (self.new ≡ self.old) }
     {
         match self.act {
             Some(act) => self.add_action(with_value(act, value)),
@@ -145,14 +154,16 @@ impl Draft {
     }
 
     pub(crate) fn number_value(&mut self, value: u64) -> Result<(), OutOfMemory>
-        ensures { OnOk result (self.new ≡ finish_action self.old (option_map (λ a. with_value a (number.Number value)) self.old.act)) }
+        ensures ok { OnOk result (self.new ≡ finish_action self.old (option_map (λ a. with_value a (number.Number value)) self.old.act)) }
+        ensures err { OnErr result (self.new ≡ self.old) }
     {
         self.value_action(ModValue::Number(value))
     }
 
     pub(crate) fn register_value(&mut self, token: &Lexeme<'_>) -> Result<(), OutOfMemory>
         requires { IsTrue (is_register self.old token.now) }
-        ensures { OnOk result (self.new ≡ finish_action self.old (option_map (λ a. with_value a (number.Reg (register_of self.old token.now.text))) self.old.act)) }
+        ensures ok { OnOk result (self.new ≡ finish_action self.old (option_map (λ a. with_value a (number.Reg (register_of self.old token.now.text))) self.old.act)) }
+        ensures err { OnErr result (self.new ≡ self.old) }
     {
         let register = self.register_of(token.text());
         self.value_action(ModValue::Reg(register))
@@ -160,20 +171,24 @@ impl Draft {
 
     pub(crate) fn head_value(&mut self, token: &Lexeme<'_>) -> Result<(), OutOfMemory>
         requires { IsTrue (is_queue self.old token.now) }
-        ensures { OnOk result (self.new ≡ finish_action self.old (option_map (λ a. with_value a (number.Front (queue_of self.old token.now.text))) self.old.act)) }
+        ensures ok { OnOk result (self.new ≡ finish_action self.old (option_map (λ a. with_value a (number.Front (queue_of self.old token.now.text))) self.old.act)) }
+        ensures err { OnErr result (self.new ≡ self.old) }
     {
         let queue = self.queue_of(token.text());
         self.value_action(ModValue::Front(queue))
     }
 
-    /// Finishes the rule that is being read.
+    /// Finishes the rule that is being read. Where memory is wanted, what was read stays as it was.
+    #[tactic(auto, using(crate::proofs::Lists::set_of))]
     pub(crate) fn end_rule(&mut self) -> Result<(), OutOfMemory>
         requires { IsTrue (not (is_twice self.old)) }
-        ensures { OnOk result (self.new ≡ finish_rule self.old) }
+        ensures ok { OnOk result (self.new ≡ finish_rule self.old) }
+        ensures err { OnErr result (self.new ≡ self.old) }
     {
         let key = self.key_with(self.from);
         let name = copy_of(&self.rule_name);
         make_room(&mut self.keys)?;
+        self.rules.push(no_rule(self.alloc))?;
         let rule = ModRule {
             object: self.object,
             name,
@@ -182,11 +197,59 @@ impl Draft {
             clauses: taken(self.alloc, &mut self.clauses),
             actions: taken(self.alloc, &mut self.actions),
         };
-        self.rules.push(rule)?;
+        set_last(&mut self.rules, rule);
         add_key(&mut self.keys, key);
         self.from = None;
         self.spontaneous = false;
         Ok(())
+    }
+}
+
+/// A rule of which nothing is read.
+fn no_rule(alloc: Global) -> ModRule
+    ensures { result ≡ record { object = 0; name = 109 ∷ []; from = None; spontaneous = false; clauses = []; actions = [] } }
+{
+    ModRule {
+        object: 0,
+        name: name_of(b"m"),
+        from: None,
+        spontaneous: false,
+        clauses: List::new(alloc),
+        actions: List::new(alloc),
+    }
+}
+
+/// Puts an action at the end, with the tests of its condition, which are taken out of their list. Where memory is wanted
+/// both lists stay as they were.
+#[tactic(auto, using(crate::proofs::Lists::set_of))]
+fn push_action(
+    alloc: Global,
+    actions: &mut List<Action>,
+    cond: &mut List<ModAtom>,
+    act: Act,
+) -> Result<(), OutOfMemory>
+    ensures more { OnOk result (actions.new ≡ actions.old ++ record { cond = cond.old; act = act } ∷ []) }
+    ensures none { OnOk result (cond.new ≡ []) }
+    ensures same { OnErr result (actions.new ≡ actions.old) }
+    ensures left { OnErr result (cond.new ≡ cond.old) }
+{
+    let cond_later = List::new(alloc);
+    actions.push(Action {
+        cond: cond_later,
+        act,
+    })?;
+    let cond = taken(alloc, cond);
+    set_last(actions, Action { cond, act });
+    Ok(())
+}
+
+/// Writes the last item of a list anew.
+fn set_last<T: Drop>(list: &mut List<T>, item: T)
+    ensures { list.new ≡ set_last list.old item }
+{
+    let len = list.len();
+    if len > 0 {
+        *list.at_mut(len - 1) = item;
     }
 }
 

@@ -1,6 +1,6 @@
 //! Tokens of sets.
 
-ghost use Rattle.std.specs.Prelude.{◌≡◌, OnOk};
+ghost use Rattle.std.specs.Prelude.{◌≡◌, OnOk, OnErr};
 ghost use Rattle.std.specs.List.{list_any};
 ghost use Rattle.hem_grammar.specs.Grammar.{assign_follows, assign_stands};
 ghost use Rattle.hem_grammar.specs.Draft.{assign_spells, assign_within, assign_fresh, assign_said, sets_field, sets_val, sets_me, sets_targets};
@@ -153,7 +153,8 @@ impl Draft {
     }
 
     pub(crate) fn read_assign(&mut self, part: AssignPart, text: &[u8]) -> Result<(), OutOfMemory>
-        ensures { OnOk result (self.new ≡ record self.old { rule = assign_said self.old part text.now }) }
+        ensures ok { OnOk result (self.new ≡ record self.old { rule = assign_said self.old part text.now }) }
+        ensures err { OnErr result (self.new ≡ self.old) }
     {
         let first = Status8(0);
         match part {

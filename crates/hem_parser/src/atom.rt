@@ -1,6 +1,6 @@
 //! Tokens of guards.
 
-ghost use Rattle.std.specs.Prelude.{◌≡◌, OnOk};
+ghost use Rattle.std.specs.Prelude.{◌≡◌, OnOk, OnErr};
 ghost use Rattle.hem_grammar.specs.Grammar.{atom_follows, atom_stands};
 ghost use Rattle.hem_grammar.specs.Draft.{atom_spells, atom_within, atom_fresh, atom_said};
 
@@ -95,7 +95,8 @@ impl Draft {
     }
 
     pub(crate) fn read_atom(&mut self, part: AtomPart, text: &[u8]) -> Result<(), OutOfMemory>
-        ensures { OnOk result (self.new ≡ record self.old { rule = atom_said self.old part text.now }) }
+        ensures ok { OnOk result (self.new ≡ record self.old { rule = atom_said self.old part text.now }) }
+        ensures err { OnErr result (self.new ≡ self.old) }
     {
         let none = StatusSet(0);
         match part {

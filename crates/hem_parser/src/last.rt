@@ -6,7 +6,7 @@ ghost use Rattle.hem_syntax.specs.declared.rule.Assign.TheVariants.{Val};
 ghost use Rattle.hem_syntax.specs.declared.rule.Value.TheVariants.{Zero};
 
 use hem_base::{List, MsgId, Name, Status8};
-use hem_syntax::{Assign, Atom, Value};
+use hem_syntax::{Assign, Atom, Rule, Value};
 
 /// The last atom of a guard.
 pub fn last_atom(guard: &List<Atom>) -> Atom
@@ -45,6 +45,16 @@ pub fn set_last_assign(sets: &mut List<Assign>, assign: Assign)
     let len = sets.len();
     if len > 0 {
         *sets.at_mut(len - 1) = assign;
+    }
+}
+
+/// Writes the last rule of a kind anew.
+pub fn set_last_rule(rules: &mut List<Rule>, rule: Rule)
+    ensures { rules.new ≡ set_last rules.old rule }
+{
+    let len = rules.len();
+    if len > 0 {
+        *rules.at_mut(len - 1) = rule;
     }
 }
 

@@ -1,6 +1,6 @@
 //! Tokens of declarations.
 
-ghost use Rattle.std.specs.Prelude.{◌≡◌, IsTrue, OnOk};
+ghost use Rattle.std.specs.Prelude.{◌≡◌, IsTrue, OnOk, OnErr};
 ghost use Rattle.hem_grammar.specs.Grammar.{part_follows, part_stands};
 ghost use Rattle.hem_grammar.specs.Draft.{part_spells, part_within, part_fresh, part_after};
 
@@ -93,7 +93,8 @@ impl Draft {
     pub(crate) fn read_part(&mut self, part: Part, text: &[u8]) -> Result<(), OutOfMemory>
         requires within { IsTrue (part_within self.old part text.now) }
         requires fresh { IsTrue (part_fresh self.old part text.now) }
-        ensures { OnOk result (self.new ≡ part_after self.old part text.now) }
+        ensures ok { OnOk result (self.new ≡ part_after self.old part text.now) }
+        ensures err { OnErr result (self.new ≡ self.old) }
     {
         match part {
             Part::Name => self.name = name_of(text),

@@ -1,12 +1,13 @@
 //! Tokens of rules outside guards, sets and sends.
 
-ghost use Rattle.std.specs.Prelude.{◌≡◌, ◌==◌, IsTrue, OnOk};
+ghost use Rattle.std.specs.Prelude.{◌≡◌, ◌==◌, [], ◌∷◌, ◌++◌, IsTrue, OnOk, OnErr};
 ghost use Rattle.std.specs.List.{list_any};
 ghost use Rattle.hem_grammar.specs.declared.terminals.RulePart.TheVariants.{NewRule};
 ghost use Rattle.hem_grammar.specs.Grammar.{rule_follows, rule_stands};
-ghost use Rattle.hem_grammar.specs.Draft.{rule_spells, rule_within, rule_fresh, rule_after};
+ghost use Rattle.hem_grammar.specs.Draft.{rule_spells, rule_within, rule_fresh, rule_after, no_rule};
 
-use crate::draft::{Draft, name_of};
+use crate::draft::{Draft, name_of, no_rule};
+use crate::last::set_last_rule;
 use crate::sets::take_with;
 use crate::words::is_short;
 use hem_base::{MsgId, OutOfMemory, Reserved};
@@ -107,21 +108,36 @@ impl Draft {
         }
     }
 
-    /// Takes in the name of a rule.
+    /// Takes in the name of a rule. Where memory is wanted, what was read stays as it was.
     fn read_name(&mut self, text: &[u8]) -> Result<(), OutOfMemory>
         requires { IsTrue (rule_within self.old (NewRule) text.now) }
-        ensures { OnOk result (self.new ≡ rule_after self.old (NewRule) text.now) }
+        ensures ok { OnOk result (self.new ≡ rule_after self.old (NewRule) text.now) }
+        ensures err { OnErr result (self.new ≡ self.old) }
     {
-        self.rule.name = self.rule_id(text)?;
+        let id = self.rule_id(text)?;
         if !self.rule_names.has(text) {
             self.rule_names.push(name_of(text))?;
         }
+        self.rule.name = id;
+        Ok(())
+    }
+
+    /// Puts the rule that is being read at the end of the kind's. Where memory is wanted, what was read stays as it was.
+    #[tactic(auto, using(crate::proofs::Lists::set_of))]
+    fn end_rule(&mut self) -> Result<(), OutOfMemory>
+        ensures ok { OnOk result (self.new ≡ record self.old { rules = self.old.rules ++ self.old.rule ∷ []; rule = no_rule }) }
+        ensures err { OnErr result (self.new ≡ self.old) }
+    {
+        self.rules.push(no_rule(self.alloc))?;
+        let rule = self.take_rule();
+        set_last_rule(&mut self.rules, rule);
         Ok(())
     }
 
     pub(crate) fn read_rule(&mut self, part: RulePart, text: &[u8]) -> Result<(), OutOfMemory>
         requires { IsTrue (rule_within self.old part text.now) }
-        ensures { OnOk result (self.new ≡ rule_after self.old part text.now) }
+        ensures ok { OnOk result (self.new ≡ rule_after self.old part text.now) }
+        ensures err { OnErr result (self.new ≡ self.old) }
     {
         match part {
             RulePart::NewRule => self.read_name(text)?,
@@ -140,10 +156,7 @@ impl Draft {
             RulePart::LockOrigin(origin) => {
                 self.rule.lock = self.rule.lock.map(|(side, _)| (side, origin));
             }
-            RulePart::EndRule => {
-                let rule = self.take_rule();
-                self.rules.push(rule)?;
-            }
+            RulePart::EndRule => self.end_rule()?,
             RulePart::Rule | RulePart::Free | RulePart::Lock => {}
         }
         Ok(())

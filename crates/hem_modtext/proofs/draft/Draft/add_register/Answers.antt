@@ -19,7 +19,7 @@ invariant_of-self c =
     let e = the_view c.self.inside in
     subst (λ regs. IsSound (record e { regs = regs })) (sym c.in_err-push.ensures.err) c.self.invariant
 
-pub returns : goal.returns
-returns c =
+pub returns-clause-ok : goal.returns-clause-ok
+returns-clause-ok c =
     let more = c.in_ok-push.ensures.ok ∙ ap (λ (n : List ℕ). c.self.inside.regs ++ (n, 0) ∷ []) (c.name_of-name.ensures ∙ c.text.ensures) ∙ ap (λ (d : Read). d.regs ++ (c.args.token.now.text, 0) ∷ []) c.self.view_is in
     λ i. record (c.self.view_is i) { regs = more i }
