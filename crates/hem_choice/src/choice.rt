@@ -118,14 +118,15 @@ impl<'a> Sight<'a> {
     fn heads(&self, me: Option<u8>) -> Heads
         ensures { result ≡ heads_of self.now me }
     {
+        let look = self.look;
         let request = match me {
-            Some(_) => message_in(request_of(self.look, me)),
+            Some(_) => message_in(request_of(look, me)),
             None => self.asked,
         };
         Heads {
             request,
-            parent: message_in(self.look.parent),
-            kids: responses(self.look.kids.as_slice()),
+            parent: message_in(look.parent),
+            kids: responses(look.kids.as_slice()),
         }
     }
 
@@ -217,7 +218,8 @@ impl<'a> Sight<'a> {
         if !names_child(rule.take) {
             return None;
         }
-        for place in 0..self.look.kids.len() {
+        let look = self.look;
+        for place in 0..look.kids.len() {
             if let Some(choice) = self.choose_for(p, kind, local, rule, place as u8) {
                 return Some(choice);
             }

@@ -51,10 +51,11 @@ impl<'a> Sight<'a> {
     fn asks_alone(&self, take: Take) -> bool
         ensures { result ≡ asks_alone self.now take }
     {
+        let look = self.look;
         match take {
             Take::Me(id) => has_id(self.asked, id),
-            Take::Parent(id) => has_id(message_in(self.look.parent), id),
-            Take::Kids(id) => some_answers(self.look.kids.as_slice(), id),
+            Take::Parent(id) => has_id(message_in(look.parent), id),
+            Take::Kids(id) => some_answers(look.kids.as_slice(), id),
             Take::Nothing => !self.spent,
         }
     }
@@ -73,8 +74,9 @@ impl<'a> Sight<'a> {
     fn asks_some_child(&self, take: Take) -> bool
         ensures { result ≡ asks_some_child self.now take }
     {
+        let look = self.look;
         match take {
-            Take::Me(id) => some_asks(self.look.kids.as_slice(), id),
+            Take::Me(id) => some_asks(look.kids.as_slice(), id),
             _ => false,
         }
     }
