@@ -80,7 +80,7 @@ asks_if_there sight local take.Nothing fresh there = unspent sight.spent fresh
     unspent true is = sym is
     unspent false is = refl
 
-unasked : (p : Protocol) (kind : Kind) (local : Local) (sight : Sight) (rule : Rule) → asks_alone sight rule.take ≡ false → None ≡ choice_with p kind local sight rule None
+pub unasked : (p : Protocol) (kind : Kind) (local : Local) (sight : Sight) (rule : Rule) → asks_alone sight rule.take ≡ false → None ≡ choice_with p kind local sight rule None
 unasked p kind local sight rule lacks = by_spent (is_spent sight rule.take) refl
   where
     by_spent : (b : Bool) → is_spent sight rule.take ≡ b → None ≡ choice_with p kind local sight rule None
@@ -98,7 +98,7 @@ asks_of_child sight kind local (take.Parent id) place fits there = no_child kind
 asks_of_child sight kind local (take.Kids id) place fits there = no_child kind (take.Kids id) place (length local.dir) (λ other is. cc) fits
 asks_of_child sight kind local take.Nothing place fits there = no_child kind take.Nothing place (length local.dir) (λ other is. cc) fits
 
-unasked_child : (p : Protocol) (kind : Kind) (local : Local) (sight : Sight) (rule : Rule) (place : ℕ) → asks_child sight rule.take place ≡ false → None ≡ choice_with p kind local sight rule (Some place)
+pub unasked_child : (p : Protocol) (kind : Kind) (local : Local) (sight : Sight) (rule : Rule) (place : ℕ) → asks_child sight rule.take place ≡ false → None ≡ choice_with p kind local sight rule (Some place)
 unasked_child p kind local sight rule place lacks =
     sym
     (none_by p kind local sight rule (Some place)
@@ -111,12 +111,6 @@ unasked_child p kind local sight rule place lacks =
 one_fails : {A : Type 0} (a b : Bool) → (a && b) ≡ false → (a ≡ false → A) → (b ≡ false → A) → A
 one_fails true b is first second = second is
 one_fails false b is first second = first refl
-
-pub alone : (p : Protocol) (kind : Kind) (local : Local) (sight : Sight) (rule : Rule) → (asks_alone sight rule.take && is_open rule local) ≡ false → None ≡ choice_with p kind local sight rule None
-alone p kind local sight rule fails = one_fails (asks_alone sight rule.take) (is_open rule local) fails (unasked p kind local sight rule) (λ shut. sym (closed_with p kind local sight rule None shut))
-
-pub of_child : (p : Protocol) (kind : Kind) (local : Local) (sight : Sight) (rule : Rule) (place : ℕ) → (asks_child sight rule.take place && is_open rule local) ≡ false → None ≡ choice_with p kind local sight rule (Some place)
-of_child p kind local sight rule place fails = one_fails (asks_child sight rule.take place) (is_open rule local) fails (unasked_child p kind local sight rule place) (λ shut. sym (closed_with p kind local sight rule (Some place) shut))
 
 -- a rule that names no child has no choice that names one
 none_all : {A B : Type 0} (f : A → Option B) → ((x : A) → f x ≡ None) → (xs : List A) → first_with f xs ≡ None

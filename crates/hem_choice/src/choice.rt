@@ -69,16 +69,15 @@ fn takes_nothing(take: Take) -> bool
     matches!(take, Take::Nothing)
 }
 
-/// The messages of the first responses of all children.
-fn responses(kids: &[KidLook]) -> ArrayVec<Option<Message>, 8>
+/// Puts the messages of the first responses of all children into `heads`.
+fn put_responses(kids: &[KidLook], heads: &mut ArrayVec<Option<Message>, 8>)
     requires { length kids.now ≤ 8 }
-    ensures { result.items ≡ map (λ kid. message_in kid.response) kids.now }
+    ensures { heads.new.items ≡ map (λ kid. message_in kid.response) kids.now }
 {
-    let mut heads = ArrayVec::<Option<Message>, 8>::new();
+    heads.clear();
     for kid in kids {
         heads.push(message_in(kid.response));
     }
-    heads
 }
 
 /// Whether a slot is reserved for a message to each child in the set.
@@ -114,20 +113,17 @@ impl<'a> Sight<'a> {
         self.spent && takes_nothing(take)
     }
 
-    /// The heads of the lists of a firing that names this child.
-    fn heads(&self, me: Option<u8>) -> Heads
-        ensures { result ≡ heads_of self.now me }
+    /// Puts the heads of the lists of a firing that names this child into `heads`.
+    fn put_heads(&self, me: Option<u8>, heads: &mut Heads)
+        ensures { heads.new ≡ heads_of self.now me }
     {
         let look = self.look;
-        let request = match me {
+        heads.request = match me {
             Some(_) => message_in(request_of(look, me)),
             None => self.asked,
         };
-        Heads {
-            request,
-            parent: message_in(look.parent),
-            kids: responses(look.kids.as_slice()),
-        }
+        heads.parent = message_in(look.parent);
+        put_responses(look.kids.as_slice(), &mut heads.kids);
     }
 
     /// The firing of a rule by a plan, where it may be made.
@@ -164,7 +160,12 @@ impl<'a> Sight<'a> {
         if self.is_spent(rule.take) {
             return None;
         }
-        let heads = self.heads(me);
+        let mut heads = Heads {
+            request: None,
+            parent: None,
+            kids: ArrayVec::new(),
+        };
+        self.put_heads(me, &mut heads);
         match Plan::of(p, kind, rule, me, local, &heads) {
             Some(plan) => self.choose_by(rule, me, plan),
             None => None,
@@ -181,7 +182,7 @@ impl<'a> Sight<'a> {
     ) -> Option<Choice<'p>>
         ensures { result ≡ choice_with p.now kind local.now self.now rule.now None }
     {
-        if !self.may_begin(local, rule) {
+        if !self.asks_alone(rule.take) {
             return None;
         }
         self.choose_with(p, kind, local, rule, None)
@@ -198,7 +199,7 @@ impl<'a> Sight<'a> {
     ) -> Option<Choice<'p>>
         ensures { result ≡ choice_with p.now kind local.now self.now rule.now (Some place) }
     {
-        if !self.may_begin_for(local, rule, place) {
+        if !self.asks_child(rule.take, place) {
             return None;
         }
         self.choose_with(p, kind, local, rule, Some(place))

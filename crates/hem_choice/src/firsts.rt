@@ -48,7 +48,8 @@ fn some_answers(kids: &[KidLook], id: MsgId) -> bool
 
 impl<'a> Sight<'a> {
     /// Whether there is what a firing asks first that takes so and names no child.
-    fn asks_alone(&self, take: Take) -> bool
+    #[inline(always)]
+    pub(crate) fn asks_alone(&self, take: Take) -> bool
         ensures { result ≡ asks_alone self.now take }
     {
         let look = self.look;
@@ -61,7 +62,8 @@ impl<'a> Sight<'a> {
     }
 
     /// Whether there is what a firing asks first that takes so and names the child at a place.
-    fn asks_child(&self, take: Take, place: u8) -> bool
+    #[inline(always)]
+    pub(crate) fn asks_child(&self, take: Take, place: u8) -> bool
         ensures { result ≡ asks_child self.now take place }
     {
         match take {
@@ -71,6 +73,7 @@ impl<'a> Sight<'a> {
     }
 
     /// Whether there is what a firing asks first that takes so and names some child.
+    #[inline(always)]
     fn asks_some_child(&self, take: Take) -> bool
         ensures { result ≡ asks_some_child self.now take }
     {
@@ -82,6 +85,7 @@ impl<'a> Sight<'a> {
     }
 
     /// Whether there is what a firing asks first that takes so, whomever it names.
+    #[inline(always)]
     fn asks_any(&self, take: Take) -> bool
         ensures { result ≡ (asks_alone self.now take || asks_some_child self.now take) }
     {
@@ -95,22 +99,5 @@ impl<'a> Sight<'a> {
         ensures { result ≡ ((asks_alone self.now rule.now.take || asks_some_child self.now rule.now.take) && is_open rule.now local.now) }
     {
         self.asks_any(rule.take) && is_open(rule, local)
-    }
-
-    /// Whether a firing of a rule that names no child has what it asks first, and the rule's locks and fields are as it needs
-    /// them.
-    #[inline(always)]
-    pub(crate) fn may_begin(&self, local: &Local, rule: &Rule) -> bool
-        ensures { result ≡ (asks_alone self.now rule.now.take && is_open rule.now local.now) }
-    {
-        self.asks_alone(rule.take) && is_open(rule, local)
-    }
-
-    /// The same of one that names the child at a place.
-    #[inline(always)]
-    pub(crate) fn may_begin_for(&self, local: &Local, rule: &Rule, place: u8) -> bool
-        ensures { result ≡ (asks_child self.now rule.now.take place && is_open rule.now local.now) }
-    {
-        self.asks_child(rule.take, place) && is_open(rule, local)
     }
 }

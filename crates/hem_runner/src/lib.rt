@@ -9,6 +9,4 @@ mod settle;
 mod turns;
 mod whole;
 
-pub use rounds::{reserve_all, round_all};
 pub use running::{Ran, run};
-pub use settle::settle_all;

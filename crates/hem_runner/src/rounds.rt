@@ -21,7 +21,7 @@ fn reserve_at<N: Net>(crew: &mut [Worker<N>], at: usize, burst: usize) -> Result
 }
 
 /// Makes room for so many firings on each line of each worker.
-pub fn reserve_all<N: Net>(crew: &mut [Worker<N>], burst: usize) -> Result<(), OutOfMemory>
+pub(crate) fn reserve_all<N: Net>(crew: &mut [Worker<N>], burst: usize) -> Result<(), OutOfMemory>
     ensures { OnOk result (AreChanged (λ o. IsRoomier burst) crew.old crew.new) }
 {
     for at in 0..crew.len() {
@@ -32,7 +32,7 @@ pub fn reserve_all<N: Net>(crew: &mut [Worker<N>], burst: usize) -> Result<(), O
 
 /// A round of all workers: each fires at most so many times, all at once on threads of their own, or one after another on
 /// this thread. Each passes the gate after each of its firings. Tells how many times they fired in all.
-pub fn round_all<R: Threads + Sync, N: Net + Send, G: Gate>(
+pub(crate) fn round_all<R: Threads + Sync, N: Net + Send, G: Gate>(
     rt: &R,
     p: &Protocol,
     gate: &G,

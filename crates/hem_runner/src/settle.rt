@@ -42,7 +42,7 @@ fn settle_below<N: Net>(net: &mut N, tree: &Tree, high: ObjectId, crew: &mut [Wo
 }
 
 /// Settles all edges: after it the ends of each channel know all that both did, and before it they knew no more.
-pub fn settle_all<N: Net>(net: &mut N, tree: &Tree, crew: &mut [Worker<N>])
+pub(crate) fn settle_all<N: Net>(net: &mut N, tree: &Tree, crew: &mut [Worker<N>])
     requires { IsCrewOf tree.now crew.old }
     ensures { (p : Written) → AreAllSettled p tree.now crew.old crew.new }
 {

@@ -20,7 +20,7 @@ use hem_worker::Worker;
 use std::thread::Threads;
 
 /// How many firings there is room for at once, on all lines of all objects together.
-const ROOM: u64 = 65_536;
+const ROOM: u64 = 262_144;
 
 /// How many firings a round allows a worker at least, and at most.
 const LEAST_BURST: u64 = 16;
@@ -28,7 +28,7 @@ const LEAST_BURST: u64 = 16;
 const MOST_BURST: u64 = 4_096;
 
 /// From how many firings in a round on it goes over threads.
-const WORTH_THREADS: u64 = 512;
+const WORTH_THREADS: u64 = 4_096;
 
 /// One turn more than a work within the limits has firings.
 const MOST_TURNS: u64 = 38_400_001;

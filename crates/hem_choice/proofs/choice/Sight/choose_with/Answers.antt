@@ -9,10 +9,10 @@ returns-in-Some c =
     c.choose_by.ensures
     ∙ with-plan (is_spent c.args.self.now c.args.rule.now.take) (plan_of c.args.p.now c.args.kind c.args.rule.now c.args.me c.args.local.now (heads_of c.args.self.now c.args.me)) c.in-Some.plan (choice_by c.args.self.now c.args.rule.now c.args.me)
     (sym c.is_spent.ensures ∙ c.if-is_spent.false)
-    (sym (c.of.ensures ∙ ap (plan_of c.args.p.now c.args.kind c.args.rule.now c.args.me c.args.local.now) c.heads-heads.ensures) ∙ c.in-Some.is)
+    (sym (c.of.ensures ∙ ap (plan_of c.args.p.now c.args.kind c.args.rule.now c.args.me c.args.local.now) c.put_heads.ensures) ∙ c.in-Some.is)
 
 pub returns-in-None : goal.returns-in-None
 returns-in-None c =
     without-plan (is_spent c.args.self.now c.args.rule.now.take) (plan_of c.args.p.now c.args.kind c.args.rule.now c.args.me c.args.local.now (heads_of c.args.self.now c.args.me)) (choice_by c.args.self.now c.args.rule.now c.args.me)
     (sym c.is_spent.ensures ∙ c.if-is_spent.false)
-    (sym (c.of.ensures ∙ ap (plan_of c.args.p.now c.args.kind c.args.rule.now c.args.me c.args.local.now) c.heads-heads.ensures) ∙ c.in-None.is)
+    (sym (c.of.ensures ∙ ap (plan_of c.args.p.now c.args.kind c.args.rule.now c.args.me c.args.local.now) c.put_heads.ensures) ∙ c.in-None.is)
