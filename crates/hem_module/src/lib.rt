@@ -8,6 +8,8 @@ mod queue;
 mod rules;
 mod state;
 mod step;
+#[cfg(test)]
+mod tests;
 mod turns;
 
 pub use modules::Modules;

@@ -7,5 +7,5 @@ pub loop-status-preserved : goal.loop-status-preserved
 loop-status-preserved c =
     record {
       comma = comma_utf8;
-      whole = rw (c.in_ok-write_status.ensures, c.in_ok-text.ensures, joined_more (status_text c.args.p.now)) (rw (drop_more c.args.statuses.now c.loop-status.status-index (record { 0 = 0 }) c.loop-status-test.true) at c.loop-status.invariant.whole);
+      whole = rw (c.in_ok-write_status.ensures, c.in_ok-text.ensures.ok, joined_more (status_text c.args.p.now)) (rw (drop_more c.args.statuses.now c.loop-status.status-index (record { 0 = 0 }) c.loop-status-test.true) at c.loop-status.invariant.whole);
     }
