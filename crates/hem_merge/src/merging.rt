@@ -14,11 +14,20 @@ ghost use Rattle.hem_merge.specs.Journals.{all_of, IsMerged};
 use hem_base::{Firing, List, OutOfMemory, Stamped};
 use std::alloc::Global;
 
+/// How many firings all journals have.
+fn count_of(journals: &[List<Stamped>]) -> usize {
+    let mut count: usize = 0;
+    for journal in journals {
+        count = count.saturating_add(journal.len());
+    }
+    count
+}
+
 /// The firings of all journals, one journal after another.
 fn gathered(alloc: Global, journals: &[List<Stamped>]) -> Result<Vec<Stamped>, OutOfMemory>
     ensures { IfOk result (λ all. all.items ≡ all_of journals.now) }
 {
-    let mut all = Vec::new(alloc);
+    let mut all = Vec::with_capacity(alloc, count_of(journals))?;
     for journal in journals {
         all.extend_from_slice(journal.as_slice())?;
     }

@@ -25,7 +25,7 @@ const ROOM: u64 = 262_144;
 /// How many firings a round allows a worker at least, and at most.
 const LEAST_BURST: u64 = 16;
 
-const MOST_BURST: u64 = 4_096;
+const MOST_BURST: u64 = 1_024;
 
 /// From how many firings in a round on it goes over threads.
 const WORTH_THREADS: u64 = 4_096;

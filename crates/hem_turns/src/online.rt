@@ -55,6 +55,18 @@ pub struct Place {
     pub self_count: u32,
 }
 
+/// For how many firings more than it has requests a line with some has room at first.
+const FIRST_ROOM: usize = 1_024;
+
+/// For how many firings a line with so many requests has room at first: where nothing is asked, for none.
+fn first_room(requests: usize) -> usize {
+    if requests == 0 {
+        0
+    } else {
+        requests.saturating_add(FIRST_ROOM)
+    }
+}
+
 /// Puts an item at the end, for which there is room.
 fn push_within<T: Drop>(items: &mut Vec<T>, item: T)
     requires { vec_len items.old < vec_capacity items.old }
@@ -141,14 +153,17 @@ impl<N: Net> OnLine<N> {
         ensures ends { IfOk result (λ line. line.ends ≡ ends) }
         ensures empty { IfOk result (λ line. (line.answers ≡ []) × (line.journal ≡ []) × (line.last ≡ 0) × (line.selfs ≡ 0)) }
     {
+        let room = first_room(requests.len());
         let requests = Vec::from_slice(alloc, requests)?;
+        let answers = Vec::with_capacity(alloc, room)?;
+        let journal = Vec::with_capacity(alloc, room)?;
         Ok(OnLine {
             local,
             requests,
             taken: 0,
-            answers: Vec::new(alloc),
+            answers,
             ends,
-            journal: Vec::new(alloc),
+            journal,
             last: 0,
             selfs: 0,
         })
