@@ -15,6 +15,7 @@ and for the jobs `walk` and `make`, without a history:
     python3 bench/make.py load          noninclusive MESI, eight leaves below two mids, 4 lines, no requests of its own
     python3 bench/make.py misses N      N requests on that tree: stores and loads in turn, at each leaf on each line; the
                                         leaves answer their parent first, so that mostly another leaf has the line
+    python3 bench/make.py lengthy N     the same with rule names of 32 letters
     python3 bench/make.py idle N        inclusive MSI, 64 objects and 16 lines, N requests of one leaf on one line
 
 and for the jobs `emit` and `play`:
@@ -28,6 +29,7 @@ and for the jobs `emit` and `play`:
 """
 import itertools
 import os
+import re
 import sys
 
 sys.path.insert(0, os.path.join(os.path.dirname(os.path.dirname(os.path.abspath(__file__))), 'compare'))
@@ -269,6 +271,12 @@ def misses(count):
     yield 'end\n'
 
 
+def lengthy(count):
+    """The same, with rule names of the most letters: what a run prints is as long as it may be for its firings."""
+    text = ''.join(misses(count))
+    yield re.sub(r'^rule (\w+)', lambda rule: 'rule ' + rule[1].ljust(32, '_'), text, flags=re.M)
+
+
 def idle(count):
     """All objects but one leaf, and what lies above it, have nothing to do."""
     yield 'use msi_inclusive\ntree root(%s)\n' % ' '.join(['mid(%s)' % ' '.join(['leaf'] * 8)] * 7)
@@ -343,7 +351,7 @@ def again(size):
 
 def main(words):
     makers = {'one-step': one_step, 'rounds': rounds, 'stores': stores, 'entries': entries, 'comments': comments,
-              'signs': signs, 'alone': alone, 'misses': misses, 'idle': idle, 'hits': hits, 'trips': trips, 'again': again}
+              'signs': signs, 'alone': alone, 'misses': misses, 'lengthy': lengthy, 'idle': idle, 'hits': hits, 'trips': trips, 'again': again}
     if words == ['protocol']:
         pieces = greatest_protocol()
     elif words == ['load']:
