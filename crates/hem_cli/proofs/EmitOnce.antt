@@ -11,7 +11,6 @@ use Rattle.hem_document.proofs.SetUpOnce.{tree_fault_once}
 use Rattle.hem_cli.specs.Texts.{setup_text}
 use Rattle.hem_cli.specs.Refusals.{IsRefused}
 use Rattle.hem_cli.specs.Emitting.{IsEmitted, IsUnlawfulTree, IsOnTree, IsEmitReply}
-use Rattle.hem_cli.specs.declared.status.Status.{Status}
 use Rattle.hem_cli.specs.declared.status.Status.TheVariants.{Done, Refused, Setup}
 use Rattle.hem_cli.proofs.Ways.{IsOnce, Same, status_once, either_once}
 use Rattle.hem_cli.proofs.RefusedOnce.{refused_once, refused_excludes}

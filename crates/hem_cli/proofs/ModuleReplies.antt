@@ -1,5 +1,5 @@
 -- The replies of `emit` and `play`.
-use Rattle.std.proofs.Common.{◌≡◌, sym, ap, subst, ℕ, List, Some, inl, inr, string_bytes}
+use Rattle.std.proofs.Common.{◌≡◌, subst, ℕ, List, Some, inl, inr, string_bytes}
 use Rattle.std.specs.Prelude.{Result, Ok, Err, IfOk, OnOk, option_map}
 use Rattle.hem_base.specs.declared.outside.OutOfMemory.{OutOfMemory}
 use Rattle.hem_syntax.specs.Protocol.{Protocol}

@@ -5,8 +5,7 @@ use Rattle.hem_base.specs.declared.ids.Firing.{Firing}
 use Rattle.hem_syntax.specs.Protocol.{Protocol}
 use Rattle.hem_tree.specs.Tree.{Tree}
 use Rattle.hem_work.specs.Work.{Work}
-use Rattle.hem_system.specs.State.{State, start}
-use Rattle.hem_trace.specs.Blocks.{Block}
+use Rattle.hem_system.specs.State.{start}
 use Rattle.hem_trace.specs.Order.{entries_of, printed}
 use Rattle.hem_report.specs.Texts.{illegal_text}
 use Rattle.hem_report.specs.StateText.{state_text}

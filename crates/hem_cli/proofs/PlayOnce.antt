@@ -1,7 +1,6 @@
 -- Modules with a feed have one play.
-use Rattle.std.proofs.Common.{◌≡◌, ◌∙◌, refl, sym, ap, subst, arith, ℕ, zero, suc, ◌<◌, ◌≤◌, Bool, true, false, List, [], ◌∷◌, length, Option, Some, None}
-use Rattle.std.specs.Prelude.{is_none, option_and_then, slice_set}
-use Rattle.hem_module.specs.declared.rules.ModRule.{ModRule}
+use Rattle.std.proofs.Common.{◌≡◌, ◌∙◌, refl, sym, ap, subst, arith, ℕ, zero, suc, ◌<◌, ◌≤◌, false, List, [], ◌∷◌, length, Some}
+use Rattle.std.specs.Prelude.{is_none, slice_set}
 use Rattle.hem_module.specs.declared.turns.Played.{Played}
 use Rattle.hem_module.specs.Modules.{Modules}
 use Rattle.hem_module.specs.States.{State, stepped}

@@ -1,6 +1,6 @@
 -- The replies of the jobs.
-use Rattle.std.proofs.Common.{◌≡◌, ◌∙◌, refl, sym, ap, subst, ℕ, ◌<◌, ◌≤◌, List, length, Option, Some, None, inl, inr, string_bytes}
-use Rattle.std.specs.Prelude.{◌⊎◌, Result, Ok, Err, IfOk, option_map}
+use Rattle.std.proofs.Common.{◌≡◌, ◌∙◌, refl, sym, ap, subst, ℕ, ◌≤◌, List, length, Option, Some, None, inl, inr, string_bytes}
+use Rattle.std.specs.Prelude.{Result, Ok, Err, IfOk, option_map}
 use Rattle.hem_base.specs.declared.outside.OutOfMemory.{OutOfMemory}
 use Rattle.hem_text.specs.declared.reader.TextFault.{TextFault}
 use Rattle.hem_syntax.specs.Protocol.{Protocol}
@@ -23,7 +23,7 @@ use Rattle.hem_cli.specs.Texts.{fault_text, ended_text}
 use Rattle.hem_system.specs.State.{State, Runs, start}
 use Rattle.hem_trace.specs.Blocks.{Block, IsSerial, SameFirings, firings_of}
 use Rattle.hem_trace.specs.Order.{entries_of, printed}
-use Rattle.hem_cli.specs.Refusals.{IsUnread, IsRefused, IsUnready, IsReplyTo, IsAnswerTo}
+use Rattle.hem_cli.specs.Refusals.{IsRefused, IsUnready, IsReplyTo, IsAnswerTo}
 use Rattle.hem_cli.specs.Preparing.{IsOf, IsPrepared}
 use Rattle.hem_cli.specs.declared.preparing.Prepared.{Prepared}
 use Rattle.hem_cli.specs.declared.preparing.Prepared.TheVariants.{ForJob}
@@ -45,7 +45,7 @@ use Rattle.hem_cli.specs.Outcome.{IsAfterReading}
 use Rattle.hem_cli.specs.declared.preparing.Ready.{Ready}
 use Rattle.hem_cli.specs.declared.reply.Reply.{Reply}
 use Rattle.hem_cli.specs.declared.status.Status.{Status}
-use Rattle.hem_cli.specs.declared.status.Status.TheVariants.{Done, Usage, WriteFault, TooLong, Text, Refused, Setup, Illegal, Memory}
+use Rattle.hem_cli.specs.declared.status.Status.TheVariants.{Done, Usage, WriteFault, TooLong, Text, Refused, Memory}
 
 if_mapped : {A B : Type 0} (f : A → B) (o : Option A) (y : B) → option_map f o ≡ Some y → (x : A) × (o ≡ Some x) × (f x ≡ y)
 if_mapped f None y is = cc

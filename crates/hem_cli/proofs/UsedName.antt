@@ -1,5 +1,5 @@
 -- The name of the shipped protocol that a document uses is a word.
-use Rattle.std.proofs.Common.{◌≡◌, refl, sym, subst, Bool, true, false, List, [], ◌∷◌, Option, Some, None, ℕ}
+use Rattle.std.proofs.Common.{◌≡◌, refl, sym, subst, Bool, true, false, List, [], ◌∷◌, Some, None, ℕ}
 use Rattle.std.specs.Prelude.{IsTrue, ◌&&◌, if◌then◌else◌, not}
 use Rattle.hem_base.specs.Words.{is_word_text, is_reserved}
 use Rattle.hem_base.specs.declared.words.Reserved.TheVariants as word

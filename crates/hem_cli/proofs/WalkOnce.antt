@@ -1,5 +1,5 @@
 -- There is one walk from a seed.
-use Rattle.std.proofs.Common.{◌≡◌, ◌∙◌, refl, sym, ap, subst, arith, ℕ, zero, suc, ◌+◌, ◌-◌, ◌/◌, ◌%◌, ◌<◌, ◌≤◌, ◌++◌, List, [], ◌∷◌, length, take, Option, Some, None, inl, inr, ⊎_elim, ◌⊎◌, mul_comm}
+use Rattle.std.proofs.Common.{◌≡◌, ◌∙◌, refl, sym, ap, subst, arith, ℕ, zero, suc, ◌+◌, ◌-◌, ◌/◌, ◌%◌, ◌<◌, ◌≤◌, ◌++◌, List, [], ◌∷◌, length, take, Option, Some, None, ⊎_elim, mul_comm}
 use Rattle.std.specs.Prelude.{slice_get, option_and_then}
 use Rattle.std.proofs.str.Laws.{order}
 use Rattle.std.proofs.lemmas.Nat.{div-mul-add, mod-mul-add, mod_below, mul-add-lt}
@@ -10,7 +10,7 @@ use Rattle.hem_tree.specs.Tree.{Tree}
 use Rattle.hem_work.specs.Work.{Work}
 use Rattle.hem_system.specs.State.{State, Runs, run, fire, start}
 use Rattle.hem_work.specs.Generator.{draw_after}
-use Rattle.hem_walk.specs.Walk.{positions, position, distance, ready_at, IsThere, IsTurn, IsOver, AreTurns, IsWalk}
+use Rattle.hem_walk.specs.Walk.{positions, position, distance, ready_at, IsThere, IsTurn, AreTurns, IsWalk}
 use Rattle.hem_cli.proofs.Endings.{if_some}
 
 -- how far it is to a position that isn't before, and to one that is

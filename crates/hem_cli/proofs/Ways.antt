@@ -1,5 +1,5 @@
 -- What is said in one of two ways, or of what was read, is said once where each way is, by texts that are the same or alike.
-use Rattle.std.proofs.Common.{◌≡◌, ◌∙◌, refl, sym, ap, subst, ℕ, List, inl, inr}
+use Rattle.std.proofs.Common.{◌≡◌, ◌∙◌, sym, ap, subst, ℕ, List, inl, inr}
 use Rattle.std.specs.Prelude.{◌⊎◌}
 use Rattle.hem_text.specs.declared.reader.TextFault.{TextFault}
 use Rattle.hem_document.specs.Documents.{IsExact}

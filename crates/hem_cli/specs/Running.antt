@@ -1,11 +1,13 @@
 -- What the jobs `run` and `walk` make of a work: a history to its end.
-use Rattle.std.specs.Prelude.{◌≡◌, ℕ, List, Option, Some, None, ⊤}
+use Rattle.std.specs.Prelude.{◌≡◌, ℕ, Bool, List, Option, Some, None, ⊤}
 use Rattle.hem_base.specs.declared.ids.Firing.{Firing}
 use Rattle.hem_syntax.specs.Protocol.{Protocol}
 use Rattle.hem_tree.specs.Tree.{Tree}
 use Rattle.hem_work.specs.Work.{Work}
 use Rattle.hem_system.specs.State.{State, Runs, start}
 use Rattle.hem_system.specs.Ended.{Within, Ended}
+use Rattle.hem_system.specs.Quiet.{is_quiet}
+use Rattle.hem_runner.specs.Tally.{answers_in}
 use Rattle.hem_trace.specs.Blocks.{Block}
 use Rattle.hem_walk.specs.Walk.{IsWalk}
 use Rattle.hem_cli.specs.Texts.{ended_text}
@@ -38,7 +40,16 @@ pub record IsTold (maker : Maker) (p : Protocol) (tree : Tree) (work : Work) (te
   pub of : AreBlocksOf p tree work journal end blocks
   pub says : text ≡ ended_text p tree journal blocks end
 
--- a history to the end, and what it comes to: the word, and how many requests and answers there are
+-- a history to the end, and what it comes to: whether its end is quiet, and how many answers are there
+pub record ComesTo (maker : Maker) (p : Protocol) (tree : Tree) (work : Work) (quiet : Bool) (answers : ℕ) : Type 0 where
+  pub journal : List Firing
+  pub end : State
+  pub to_end : IsToEnd p tree work journal end
+  pub made : MayMake maker p tree work journal end
+  pub quiet_is : quiet ≡ is_quiet end
+  pub answers_are : answers ≡ answers_in end
+
+-- a history to the end, and the text of what it comes to: the word, and how many requests and answers there are
 pub record IsSummed (maker : Maker) (p : Protocol) (tree : Tree) (work : Work) (text : List ℕ) : Type 0 where
   pub journal : List Firing
   pub end : State

@@ -59,7 +59,7 @@ pub(crate) fn ended_text(
 ) -> Result<String, OutOfMemory>
     ensures { IfOk result (λ s. string_bytes s ≡ ended_text p.now tree.now journal.now blocks.now end.now) }
 {
-    let mut text = String::from_str(alloc, end_word_text(end))?;
+    let mut text = String::from_str(alloc, end_word_text(end.quiet()))?;
     let journal = journal_text(alloc, p, journal)?;
     text.push_str(&journal)?;
     let blocks = blocks_text(alloc, p, blocks)?;

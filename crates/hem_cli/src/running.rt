@@ -5,18 +5,18 @@ ghost use Rattle.hem_work.specs.Lawful.{IsLawfulWork};
 ghost use Rattle.hem_document.specs.Documents.{IsWorkDocument, IsWorkDocumentFault};
 ghost use Rattle.hem_cli.specs.Refusals.{IsAnswerTo};
 ghost use Rattle.hem_cli.specs.Answer.{most_bytes, IsEndReply};
-ghost use Rattle.hem_cli.specs.Running.{IsToEnd, MayMake, IsTold, IsSummed, IsEndOf};
+ghost use Rattle.hem_cli.specs.Running.{IsToEnd, MayMake, IsTold, ComesTo, IsSummed, IsEndOf};
 
 use crate::Status;
 use crate::history_texts::ended_text;
 use crate::preparing::{Prepared, Ready, prepare};
 use crate::reply::{Reply, letting_go, reply_with, unlawful, unread};
-use crate::summary::summary_text;
+use crate::summary::{summary_text, tally_of};
 use hem_base::{Firing, Gate, List, OutOfMemory};
 use hem_document::{WorkDocument, read_work_document};
 use hem_regroup::{RegroupFault, regroup};
 use hem_ring::RingNet;
-use hem_runner::{Ran, run};
+use hem_runner::{Ran, Tally, run, tally_run};
 use hem_system::System;
 use hem_text::TextError;
 use hem_tree::SetupError;
@@ -48,13 +48,16 @@ fn history<R: Threads + Sync, G: Gate>(
     gate: &G,
     maker: Maker,
     ready: &Ready,
-    work: &Work,
 ) -> Result<ToEnd, OutOfMemory>
-    requires { IsLawfulWork ready.now.accepted ready.now.tree work.now }
-    ensures to_end { IfOk result (λ h. IsToEnd ready.now.accepted ready.now.tree work.now h.journal h.end) }
-    ensures made { IfOk result (λ h. MayMake maker ready.now.accepted ready.now.tree work.now h.journal h.end) }
+    requires { IsLawfulWork ready.now.accepted ready.now.tree ready.now.work }
+    ensures to_end { IfOk result (λ h. IsToEnd ready.now.accepted ready.now.tree ready.now.work h.journal h.end) }
+    ensures made { IfOk result (λ h. MayMake maker ready.now.accepted ready.now.tree ready.now.work h.journal h.end) }
 {
-    let (accepted, tree) = (&ready.accepted, &ready.tree);
+    let Ready {
+        accepted,
+        tree,
+        work,
+    } = ready;
     match maker {
         Maker::Workers => {
             let mut net = RingNet::new();
@@ -87,7 +90,7 @@ fn told<R: Threads + Sync, G: Gate>(
 {
     let p = ready.accepted.protocol();
     let tree = &ready.tree;
-    let ToEnd { journal, end } = history(rt, alloc, gate, maker, ready, &ready.work)?;
+    let ToEnd { journal, end } = history(rt, alloc, gate, maker, ready)?;
     match regroup(
         rt,
         alloc,
@@ -98,6 +101,31 @@ fn told<R: Threads + Sync, G: Gate>(
     ) {
         Ok(blocks) => ended_text(alloc, p, tree, journal.as_slice(), &blocks, &end),
         Err(RegroupFault::OutOfMemory) => Err(OutOfMemory),
+    }
+}
+
+/// What a history over a work to its end comes to. That of workers is read off the workers, without a journal.
+fn tallied<R: Threads + Sync, G: Gate>(
+    rt: &R,
+    alloc: Global,
+    gate: &G,
+    maker: Maker,
+    ready: &Ready,
+    work: &Work,
+) -> Result<Tally, OutOfMemory>
+    requires { IsLawfulWork ready.now.accepted ready.now.tree work.now }
+    ensures { IfOk result (λ t. ComesTo maker ready.now.accepted ready.now.tree work.now t.quiet t.answers) }
+{
+    let (accepted, tree) = (&ready.accepted, &ready.tree);
+    match maker {
+        Maker::Workers => {
+            let mut net = RingNet::new();
+            tally_run(rt, alloc, accepted, tree, work, &mut net, gate)
+        }
+        Maker::OneThread { seed } => {
+            let Walked { system, .. } = walk(alloc, accepted, tree, work, seed)?;
+            tally_of(&system).ok_or(OutOfMemory)
+        }
     }
 }
 
@@ -113,8 +141,8 @@ fn summed<R: Threads + Sync, G: Gate>(
     requires { IsLawfulWork ready.now.accepted ready.now.tree work.now }
     ensures { IfOk result (λ text. IsSummed maker ready.now.accepted ready.now.tree work.now (string_bytes text)) }
 {
-    let made = history(rt, alloc, gate, maker, ready, work)?;
-    summary_text(alloc, &ready.tree, work, &made.end)
+    let tally = tallied(rt, alloc, gate, maker, ready, work)?;
+    summary_text(alloc, &ready.tree, work, tally)
 }
 
 /// The reply with so many generated requests.

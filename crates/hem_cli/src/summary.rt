@@ -4,10 +4,13 @@ ghost use Rattle.std.specs.Prelude.{◌≡◌, ◌<◌, [], length, slice_index_
 ghost use Rattle.hem_bound.specs.Sums.{total};
 ghost use Rattle.hem_bound.specs.Starts.{requests_in};
 ghost use Rattle.hem_work.specs.Work.{requests_of};
-ghost use Rattle.hem_cli.specs.Summary.{answers_at, answers_on, answers_in, summary_text};
+ghost use Rattle.hem_system.specs.Quiet.{is_quiet};
+ghost use Rattle.hem_runner.specs.Tally.{answers_at, answers_on, answers_in};
+ghost use Rattle.hem_cli.specs.Summary.{tally_text};
 
 use hem_base::{LineId, ObjectId, OutOfMemory};
 use hem_report::end_word_text;
+use hem_runner::Tally;
 use hem_system::{Lane, System};
 use hem_tree::Tree;
 use hem_work::Work;
@@ -68,17 +71,28 @@ fn answers_in(s: &System) -> Option<u64>
     Some(count)
 }
 
+/// What a run comes to, by the state in which it ends.
+pub(crate) fn tally_of(end: &System) -> Option<Tally>
+    ensures quiet { IfSome result (λ t. t.quiet ≡ is_quiet end.now) }
+    ensures answers { IfSome result (λ t. t.answers ≡ answers_in end.now) }
+{
+    Some(Tally {
+        quiet: end.quiet(),
+        answers: answers_in(end)?,
+    })
+}
+
 /// The text of what a run comes to: the word, how many requests the work has, and how many answers there are at the end.
 pub(crate) fn summary_text(
     alloc: Global,
     tree: &Tree,
     work: &Work,
-    end: &System,
+    tally: Tally,
 ) -> Result<String, OutOfMemory>
-    ensures { IfOk result (λ s. string_bytes s ≡ summary_text tree.now work.now end.now) }
+    ensures { IfOk result (λ s. string_bytes s ≡ tally_text tree.now work.now tally.quiet tally.answers) }
 {
-    let word = end_word_text(end);
+    let word = end_word_text(tally.quiet);
     let requests = requests_in(tree, work).ok_or(OutOfMemory)?;
-    let answers = answers_in(end).ok_or(OutOfMemory)?;
+    let answers = tally.answers;
     Ok(format!(in alloc; "{word}requests {requests}\nanswers {answers}\n")?)
 }

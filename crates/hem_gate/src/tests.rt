@@ -4,15 +4,14 @@ ghost use Rattle.std.specs.Prelude.{◌<◌, length, IfOk};
 ghost use Rattle.hem_work.specs.Lawful.{IsLawfulWork};
 
 use crate::meeting::Meeting;
-use hem_base::Gate;
 use hem_check::{Accepted, check};
 use hem_document::{WorkDocument, read_work_document};
 use hem_io::OpenGate;
 use hem_ring::RingNet;
-use hem_runner::{Ran, run};
+use hem_runner::{Tally, run, tally_run};
 use hem_syntax::Protocol;
 use hem_system::{Lane, System};
-use hem_tree::{RawTree, SetupError, Tree};
+use hem_tree::{SetupError, Tree};
 use hem_wire::{BoxNet, Net};
 use hem_work::{RawWork, Work};
 use std::alloc::Global;
@@ -71,6 +70,14 @@ tree root(mid(leaf leaf leaf leaf) mid(leaf leaf leaf leaf))
 work lines 4 self 2 end
 ";
 
+/// A work that is ready for runs.
+#[derive(Drop)]
+struct Ready {
+    accepted: Accepted,
+    tree: Tree,
+    work: Work,
+}
+
 /// The work of the text, with so many requests after its own, generated from the seed 7.
 fn work_of(
     alloc: Global,
@@ -88,32 +95,10 @@ fn work_of(
     }
 }
 
-/// A run over a disciplined protocol.
-fn ran_over<R: Threads + Sync, N: Net + Send, G: Gate>(
-    rt: &R,
-    alloc: Global,
-    accepted: &Accepted,
-    tree: &RawTree,
-    work: &RawWork,
-    count: u32,
-    net: &mut N,
-    gate: &G,
-) -> Result<Ran, Fail> {
-    let tree = Tree::build(alloc, tree)?;
-    let work = work_of(alloc, work, accepted.protocol(), &tree, count)?;
-    Ok(run(rt, alloc, accepted, &tree, &work, net, gate)?)
-}
-
-/// A run of the document, with so many generated requests.
-fn ran<R: Threads + Sync, N: Net + Send, G: Gate>(
-    rt: &R,
-    alloc: Global,
-    text: &[u8],
-    count: u32,
-    net: &mut N,
-    gate: &G,
-) -> Result<Ran, Fail>
+/// A document's work, with so many generated requests.
+fn prepared(alloc: Global, text: &[u8], count: u32) -> Result<Ready, Fail>
     requires { length text.now < 4294967295 }
+    ensures { IfOk result (λ r. IsLawfulWork r.accepted r.tree r.work) }
 {
     let WorkDocument {
         protocol,
@@ -123,53 +108,73 @@ fn ran<R: Threads + Sync, N: Net + Send, G: Gate>(
     let Ok(accepted) = check(protocol) else {
         return Err("the protocol is refused")?;
     };
-    ran_over(rt, alloc, &accepted, &tree, &work, count, net, gate)
+    let tree = Tree::build(alloc, &tree)?;
+    let work = work_of(alloc, &work, accepted.protocol(), &tree, count)?;
+    Ok(Ready {
+        accepted,
+        tree,
+        work,
+    })
 }
 
 #[test]
 fn two_workers_run_at_the_same_time(rt: HostRuntime) -> Result<(), Fail> {
+    let alloc = rt.alloc();
+    let it = prepared(alloc, SIX_LOADS, 0)?;
+    let mut net = RingNet::new();
     let meeting = Meeting::new();
-    let ran = ran(&rt, rt.alloc(), SIX_LOADS, 0, &mut RingNet::new(), &meeting)?;
+    let ran = run(
+        &rt,
+        alloc,
+        &it.accepted,
+        &it.tree,
+        &it.work,
+        &mut net,
+        &meeting,
+    )?;
     assert_eq!(rt; meeting.counts(), [3, 3, 0, 0]);
     assert_eq!(rt; ran.journal.len(), 6);
     assert!(rt; ran.system.quiet());
     Ok(())
 }
 
-/// How a run ended: how many firings it made, whether its state is quiet, and how many answers there are in it.
+/// How two runs ended: how many firings the first made and what its state comes to, and what the second came to.
 #[derive(Clone, Copy)]
 struct Ended {
     firings: usize,
-    quiet: bool,
-    answers: usize,
+    state: Tally,
+    told: Tally,
 }
 
 /// How many answers a state has.
-fn answers_in(s: &System) -> usize {
-    let mut count: usize = 0;
+fn answers_in(s: &System) -> u64 {
+    let mut count: u64 = 0;
     for line in 0..s.lines() {
         for object in 0..s.objects(line) {
-            count = count.saturating_add(s.list_at(line, object, Lane::Answers).len());
+            count = count.saturating_add(s.list_at(line, object, Lane::Answers).len() as u64);
         }
     }
     count
 }
 
-/// How a run of the document over a net ended, with so many generated requests.
+/// How runs of a work over a net ended.
 fn over_net<R: Threads + Sync, N: Net + Send>(
     rt: &R,
     alloc: Global,
-    text: &[u8],
-    count: u32,
+    it: &Ready,
     net: &mut N,
 ) -> Result<Ended, Fail>
-    requires { length text.now < 4294967295 }
+    requires { IsLawfulWork it.now.accepted it.now.tree it.now.work }
 {
-    let ran = ran(rt, alloc, text, count, net, &OpenGate)?;
+    let ran = run(rt, alloc, &it.accepted, &it.tree, &it.work, net, &OpenGate)?;
+    let told = tally_run(rt, alloc, &it.accepted, &it.tree, &it.work, net, &OpenGate)?;
     Ok(Ended {
         firings: ran.journal.len(),
-        quiet: ran.system.quiet(),
-        answers: answers_in(&ran.system),
+        state: Tally {
+            quiet: ran.system.quiet(),
+            answers: answers_in(&ran.system),
+        },
+        told,
     })
 }
 
@@ -182,16 +187,18 @@ fn over_both<R: Threads + Sync>(
 ) -> Result<[Ended; 2], Fail>
     requires { length text.now < 4294967295 }
 {
-    let boxes = over_net(rt, alloc, text, count, &mut BoxNet::new())?;
-    let rings = over_net(rt, alloc, text, count, &mut RingNet::new())?;
+    let it = prepared(alloc, text, count)?;
+    let boxes = over_net(rt, alloc, &it, &mut BoxNet::new())?;
+    let rings = over_net(rt, alloc, &it, &mut RingNet::new())?;
     Ok([boxes, rings])
 }
 
 #[test]
 fn a_load_runs_over_both_nets(rt: HostRuntime) -> Result<(), Fail> {
     for end in over_both(&rt, rt.alloc(), SINGLE_LOAD, 0)? {
-        assert!(rt; end.quiet);
-        assert_eq!(rt; (end.firings, end.answers), (1, 1));
+        assert_eq!(rt; end.firings, 1);
+        assert!(rt; end.state.quiet && end.told.quiet);
+        assert_eq!(rt; (end.state.answers, end.told.answers), (1, 1));
     }
     Ok(())
 }
@@ -199,8 +206,9 @@ fn a_load_runs_over_both_nets(rt: HostRuntime) -> Result<(), Fail> {
 #[test]
 fn a_lost_message_leaves_both_nets_stuck(rt: HostRuntime) -> Result<(), Fail> {
     for end in over_both(&rt, rt.alloc(), LOST, 0)? {
-        assert!(rt; !end.quiet);
-        assert_eq!(rt; (end.firings, end.answers), (1, 0));
+        assert_eq!(rt; end.firings, 1);
+        assert!(rt; !end.state.quiet && !end.told.quiet);
+        assert_eq!(rt; (end.state.answers, end.told.answers), (0, 0));
     }
     Ok(())
 }
@@ -208,8 +216,8 @@ fn a_lost_message_leaves_both_nets_stuck(rt: HostRuntime) -> Result<(), Fail> {
 #[test]
 fn a_realistic_load_is_answered_over_both_nets(rt: HostRuntime) -> Result<(), Fail> {
     for end in over_both(&rt, rt.alloc(), EIGHT_LEAVES, 20_000)? {
-        assert!(rt; end.quiet);
-        assert_eq!(rt; end.answers, 20_000);
+        assert!(rt; end.state.quiet && end.told.quiet);
+        assert_eq!(rt; (end.state.answers, end.told.answers), (20_000, 20_000));
     }
     Ok(())
 }

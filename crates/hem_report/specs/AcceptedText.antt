@@ -1,5 +1,5 @@
 -- The text of an accepted protocol.
-use Rattle.std.specs.Prelude.{List, [], ◌∷◌, ◌++◌, flat_map, Result, Ok, Err, codes}
+use Rattle.std.specs.Prelude.{[], ◌∷◌, ◌++◌, flat_map, Result, Ok, Err, codes}
 use Rattle.hem_base.specs.declared.ids.RuleId.{RuleId}
 use Rattle.hem_base.specs.declared.ids.Kind.{Kind}
 use Rattle.hem_base.specs.declared.ids.Kind.TheVariants.{Root, Mid, Leaf}

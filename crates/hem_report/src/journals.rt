@@ -2,13 +2,12 @@
 
 ghost use Rattle.std.specs.Prelude.{◌≡◌, ◌++◌, OnOk, IfOk};
 ghost use Rattle.std.specs.String.{string_bytes};
-ghost use Rattle.hem_report.specs.JournalText.{journal_text, end_word_of};
+ghost use Rattle.hem_report.specs.JournalText.{journal_text, end_word};
 
 use crate::firings::write_firings;
 use hem_base::{Firing, OutOfMemory};
 use hem_output::Output;
 use hem_syntax::Protocol;
-use hem_system::System;
 use std::alloc::Global;
 
 /// Appends how many firings there are, and each of them.
@@ -30,9 +29,9 @@ pub fn journal_text(alloc: Global, p: &Protocol, journal: &[Firing]) -> Result<S
     Ok(output.into_string())
 }
 
-/// The word for a state in which a run ends, with its line feed: `quiet` or `stuck`. It takes no memory.
-pub fn end_word_text(s: &System) -> &'static str
-    ensures { result.now ≡ end_word_of s.now }
+/// The word for the end of a run, by whether its state is quiet, with its line feed: `quiet` or `stuck`. It takes no memory.
+pub fn end_word_text(quiet: bool) -> &'static str
+    ensures { result.now ≡ end_word quiet }
 {
-    if s.quiet() { "quiet\n" } else { "stuck\n" }
+    if quiet { "quiet\n" } else { "stuck\n" }
 }

@@ -27,9 +27,9 @@ use Rattle.hem_idle.proofs.End.{idle-ended}
 use Rattle.hem_runner.specs.Rounds.{IsAtEnd}
 use Rattle.hem_runner.specs.Runs.{channel_slots, AreLastJournals, IsWholeHistory, IsRun}
 
--- the merged journals of a crew at its end are a whole history
-pub whole-history : (p : Protocol) (tree : Tree) (work : Work) (journals : List (List Stamped)) (h : List Firing) → IsProtocol p → IsDisciplined p → IsLawful tree → IsLawfulWork p tree work → AreLastJournals p tree work journals → IsMerged journals h → IsWholeHistory p tree work h
-whole-history p tree work journals h protocol disciplined lawful fits last merged =
+-- the merged journals of a crew at its end lead to the state that it holds, and that is an end
+pub run-held : (p : Protocol) (tree : Tree) (work : Work) (journals : List (List Stamped)) (h : List Firing) → IsProtocol p → IsDisciplined p → IsLawful tree → IsLawfulWork p tree work → (last : AreLastJournals p tree work journals) → IsMerged journals h → IsRun p tree work h (held tree last.ended.idle (start p tree work))
+run-held p tree work journals h protocol disciplined lawful fits last merged =
     let end = last.ended in
     let is = rounds-keep p tree (start p tree work) work.self_count channel_slots false end.known end.idle end.is end.round in
     let knows = round-knows p end.known end.idle end.round tree end.knows in
@@ -37,13 +37,14 @@ whole-history p tree work journals h protocol disciplined lawful fits last merge
     let idle : IsMerged (journals_of work.lines end.idle) h = subst (λ js. IsMerged js h) (journals-stay p tree work.lines end.idle last.crew end.settled) settled in
     let runs = crew-runs p tree work channel_slots end.idle h lawful.shape is knows idle in
     record {
-      state = held tree end.idle (start p tree work);
-      is = record {
-        runs = runs;
-        within = crew-within p tree work channel_slots end.idle h lawful.shape is knows idle;
-        ended = idle-ended p tree work channel_slots end.known end.idle last.crew h protocol disciplined lawful fits (omega arith) end.is end.knows end.round end.settled settled runs;
-      };
+      runs = runs;
+      within = crew-within p tree work channel_slots end.idle h lawful.shape is knows idle;
+      ended = idle-ended p tree work channel_slots end.known end.idle last.crew h protocol disciplined lawful fits (omega arith) end.is end.knows end.round end.settled settled runs;
     }
+
+-- so they are a whole history
+pub whole-history : (p : Protocol) (tree : Tree) (work : Work) (journals : List (List Stamped)) (h : List Firing) → IsProtocol p → IsDisciplined p → IsLawful tree → IsLawfulWork p tree work → AreLastJournals p tree work journals → IsMerged journals h → IsWholeHistory p tree work h
+whole-history p tree work journals h protocol disciplined lawful fits last merged = record { state = held tree last.ended.idle (start p tree work); is = run-held p tree work journals h protocol disciplined lawful fits last merged }
 
 -- the state to which a whole history leads is its end
 pub run-ended : (p : Protocol) (tree : Tree) (work : Work) (h : List Firing) (state : State) → IsWholeHistory p tree work h → Runs p tree (start p tree work) h state → IsRun p tree work h state

@@ -8,3 +8,6 @@ pub mod Settling
 pub mod Ending
 pub mod Histories
 pub mod TakenOut
+pub mod Unlocked
+pub mod Passed
+pub mod Tallied

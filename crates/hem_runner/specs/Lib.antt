@@ -3,3 +3,4 @@ pub mod Pairs
 pub mod Settles
 pub mod Rounds
 pub mod Runs
+pub mod Tally

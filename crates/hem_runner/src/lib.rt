@@ -6,7 +6,9 @@ mod pairs;
 mod rounds;
 mod running;
 mod settle;
+mod tallies;
 mod turns;
 mod whole;
 
 pub use running::{Ran, run};
+pub use tallies::{Tally, tally_run};

@@ -25,7 +25,7 @@ use std::alloc::Global;
 use std::thread::Threads;
 
 /// How many slots each channel has.
-const CHANNEL_SLOTS: usize = 4;
+pub(crate) const CHANNEL_SLOTS: usize = 4;
 
 /// What the workers made: their journal, and the state to which it leads.
 #[derive(Drop)]

@@ -1,4 +1,4 @@
-use Rattle.std.proofs.Common.{◌∙◌, string_bytes}
+use Rattle.std.proofs.Common.{string_bytes}
 use Rattle.hem_cli.proofs.Replies.{end_told}
 use Rattle.hem_cli.proofs.running.told.Goals as goal
 

@@ -1,7 +1,6 @@
-use Rattle.std.proofs.Common.{◌≡◌, length}
+use Rattle.std.proofs.Common.{◌≡◌}
 use Rattle.hem_bound.specs.Sums.{total}
-use Rattle.hem_work.specs.Work.{requests_of}
-use Rattle.hem_cli.specs.Summary.{answers_at, answers_on}
+use Rattle.hem_runner.specs.Tally.{answers_on}
 use Rattle.hem_cli.proofs.summary.answers_in.Given as goal
 
 -- the count so far is that of what was passed
