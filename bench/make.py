@@ -15,8 +15,9 @@ and for the jobs `walk` and `make`, without a history:
     python3 bench/make.py load          noninclusive MESI, eight leaves below two mids, 4 lines, no requests of its own
     python3 bench/make.py misses N      N requests on that tree: stores and loads in turn, at each leaf on each line; the
                                         leaves answer their parent first, so that mostly another leaf has the line
-    python3 bench/make.py lengthy N     the same with rule names of 32 letters
     python3 bench/make.py idle N        inclusive MSI, 64 objects and 16 lines, N requests of one leaf on one line
+    python3 bench/make.py echoes N      N stores on 64 objects, each of which asks all leaves of the other mids, with rule names
+                                        of 32 letters: the answer without a count has some 5,000 bytes for each
 
 and for the jobs `emit` and `play`:
 
@@ -271,12 +272,6 @@ def misses(count):
     yield 'end\n'
 
 
-def lengthy(count):
-    """The same, with rule names of the most letters: what a run prints is as long as it may be for its firings."""
-    text = ''.join(misses(count))
-    yield re.sub(r'^rule (\w+)', lambda rule: 'rule ' + rule[1].ljust(32, '_'), text, flags=re.M)
-
-
 def idle(count):
     """All objects but one leaf, and what lies above it, have nothing to do."""
     yield 'use msi_inclusive\ntree root(%s)\n' % ' '.join(['mid(%s)' % ' '.join(['leaf'] * 8)] * 7)
@@ -285,6 +280,46 @@ def idle(count):
 
 MOST_OBJECTS = 'tree root(%s)\n' % ' '.join(['mid(%s)' % ' '.join(['leaf'] * 8)] * 7)
 MIDDLE_SIZE = 'tree root(%s)\n' % ' '.join(['mid(leaf leaf leaf leaf)'] * 4)
+
+
+ECHO = """protocol echo
+status I S
+message St ext_req
+message StR ext_rsp
+message Get up_req
+message Rs down_rsp
+message Inv down_req
+message InvR up_rsp
+kind root
+dir init I
+rule get take me Get need up free down free when others any I lock down child send others in I Inv 0 end
+rule done take kids InvR need up any down child when asked Get free down send me Rs 0 end
+end
+kind mid
+dir init I
+rule up take me Get need up free down free lock up child send parent Get 0 end
+rule resp take parent Rs need up child down free free up send me Rs msg end
+rule inv take parent Inv need up any down free when kids any I lock down parent send kids in I Inv 0 end
+rule inv_done take kids InvR need up any down parent when asked Inv free down send parent InvR 0 end
+end
+kind leaf
+field st init I
+rule miss take me St need up free down free lock up child send parent Get 0 end
+rule resp take parent Rs need up child down free free up send me StR msg end
+rule inv take parent Inv need up any down free send parent InvR 0 end
+end
+end
+"""
+
+
+def echoes(count):
+    """Stores of all leaves in turn; names of the most letters, so that what a walk or a run prints is the longest."""
+    yield re.sub(r'^rule (\w+)', lambda rule: 'rule ' + rule[1].ljust(32, '_'), ECHO, flags=re.M)
+    yield MOST_OBJECTS + 'work lines 1 self 0\n'
+    leaves = [mid + k for mid in range(1, 64, 9) for k in range(1, 9)]
+    for k, leaf in enumerate(leaves):
+        yield 'at %d line 0%s\n' % (leaf, ' St 1' * len(range(k, count, len(leaves))))
+    yield 'end\n'
 
 
 def tree(name):
@@ -351,7 +386,7 @@ def again(size):
 
 def main(words):
     makers = {'one-step': one_step, 'rounds': rounds, 'stores': stores, 'entries': entries, 'comments': comments,
-              'signs': signs, 'alone': alone, 'misses': misses, 'lengthy': lengthy, 'idle': idle, 'hits': hits, 'trips': trips, 'again': again}
+              'signs': signs, 'alone': alone, 'misses': misses, 'idle': idle, 'echoes': echoes, 'hits': hits, 'trips': trips, 'again': again}
     if words == ['protocol']:
         pieces = greatest_protocol()
     elif words == ['load']:
