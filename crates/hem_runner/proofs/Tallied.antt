@@ -1,9 +1,12 @@
 -- What the workers hold at the end of a run is what the run comes to.
 use Rattle.std.proofs.Common.{◌≡◌, refl, ap, sym, ◌∙◌, subst, ℕ, zero, suc, ◌+◌, ◌<◌, arith, Bool, true, false, List, [], ◌∷◌, ◌++◌, map, take, drop, length, Option, Some, None}
-use Rattle.std.specs.Prelude.{slice_get, slice_index_or, option_map, option_and_then, is_none, IfOk, IfSome}
+use Rattle.std.specs.Prelude.{slice_get, slice_index_or, sum, sum_by, option_map, option_and_then, is_none, IfOk, IfSome}
 use Rattle.std.specs.Option.{option_map_or, ok_or}
 use Rattle.std.specs.List.{list_all}
 use Rattle.std.proofs.Math.Seq.{take-append_seam}
+use Rattle.std.proofs.lemmas.List.Sums.{sum_by-cons, sum-map}
+use Rattle.std.proofs.lemmas.List.Folds.{list_all-map}
+use Rattle.hem_ends.specs.Ends.{Ends}
 use Rattle.hem_base.specs.declared.ids.Firing.{Firing}
 use Rattle.hem_base.specs.declared.ids.Stamped.{Stamped}
 use Rattle.hem_syntax.specs.Protocol.{Protocol}
@@ -24,17 +27,17 @@ use Rattle.hem_locks.proofs.States.{reached-holds}
 use Rattle.hem_law.proofs.NormalRun.{start-fresh}
 use Rattle.hem_law.proofs.LineParts.{length-map_each}
 use Rattle.hem_bound.specs.Sums.{total}
-use Rattle.hem_bound.proofs.Sums.{total_same_below, total_swap}
+use Rattle.hem_bound.proofs.Sums.{total_none, total_same, total_same_below, total_swap}
 use Rattle.hem_parts.proofs.AllRun.{there-too}
 use Rattle.hem_parts.proofs.Order.{in-order-sorted, in-order-permutes}
 use Rattle.hem_parts.specs.Merged.{in_order}
 use Rattle.hem_merge.specs.Journals.{all_of}
 use Rattle.hem_turns.specs.OnLine.{OnLine, asked}
-use Rattle.hem_worker.specs.Workers.{Worker}
+use Rattle.hem_worker.specs.Workers.{Worker, AreChanged}
 use Rattle.hem_crew.specs.Crew.{line_of, IsCrew, journals_of}
 use Rattle.hem_crew.specs.Held.{held_cell, held}
 use Rattle.hem_crew.specs.Rounds.{IsStill as DoesNothing}
-use Rattle.hem_crew.proofs.Kept.{rounds-keep}
+use Rattle.hem_crew.proofs.Kept.{maps-same, rounds-keep}
 use Rattle.hem_crew.proofs.Tied.{held_line, each-at}
 use Rattle.hem_crew.proofs.Merging.{start-lines}
 use Rattle.hem_idle.proofs.IdleRound.{on-line}
@@ -73,71 +76,58 @@ free-lock (Some x) free = cc
 no-request : (cell : Cell) → has_no_message cell ≡ true → holds_none cell.requests ≡ true
 no-request cell none = (both _ _ none).1
 
--- a settle changes neither what is at rest nor the answers
-rest-same : (old new : List OnLine) → length new ≡ length old → ((l : ℕ) (a b : OnLine) → slice_get old l ≡ Some a → slice_get new l ≡ Some b → is_at_rest b ≡ is_at_rest a) → list_all is_at_rest new ≡ list_all is_at_rest old
-rest-same [] [] count each = refl
-rest-same [] (b ∷ new) count each = absurd (omega (arith, count))
-rest-same (a ∷ old) [] count each = absurd (omega (arith, count))
-rest-same (a ∷ old) (b ∷ new) count each =
-    let less : length new ≡ length old = omega (arith, count) in
-    let rest = rest-same old new less (λ l x y here there. each (suc l) x y here there) in
-    rw (each 0 a b refl refl, rest) refl
+-- how many answers an object has on a line
+abbrev answers_of : OnLine → ℕ
+answers_of line = length line.answers
 
-answered-same : (old new : List OnLine) → length new ≡ length old → ((l : ℕ) (a b : OnLine) → slice_get old l ≡ Some a → slice_get new l ≡ Some b → b.answers ≡ a.answers) → answered_by new ≡ answered_by old
-answered-same [] [] count each = refl
-answered-same [] (b ∷ new) count each = absurd (omega (arith, count))
-answered-same (a ∷ old) [] count each = absurd (omega (arith, count))
-answered-same (a ∷ old) (b ∷ new) count each =
-    let less : length new ≡ length old = omega (arith, count) in
-    let rest = answered-same old new less (λ l x y here there. each (suc l) x y here there) in
-    let first = ap length (each 0 a b refl refl) in
-    omega (arith, rest, first)
+-- what is told of each element alone is the same of all
+alls-same : {A : Type 0} (test : A → Bool) (old new : List A) → map test new ≡ map test old → list_all test new ≡ list_all test old
+alls-same test old new same = sym (list_all-map (λ b. b) test new) ∙ ap (list_all (λ b. b)) same ∙ list_all-map (λ b. b) test old
 
-still-rest : (p : Protocol) (old new : List Worker) → length new ≡ length old → ((o : ℕ) (a b : Worker) → slice_get old o ≡ Some a → slice_get new o ≡ Some b → DoesNothing p a b) → all_at_rest new ≡ all_at_rest old
-still-rest p [] [] count each = refl
-still-rest p [] (b ∷ new) count each = absurd (omega (arith, count))
-still-rest p (a ∷ old) [] count each = absurd (omega (arith, count))
-still-rest p (a ∷ old) (b ∷ new) count each =
-    let less : length new ≡ length old = omega (arith, count) in
-    let rest = still-rest p old new less (λ o x y here there. each (suc o) x y here there) in
-    let lines = (each 0 a b refl refl).lines in
-    let first = rest-same a.lines b.lines lines.count (λ l x y at this. ap is_at_rest (lines.each l x y at this).same) in
-    rw (first, rest) refl
+sums-same : {A : Type 0} (f : A → ℕ) (old new : List A) → map f new ≡ map f old → sum_by f new ≡ sum_by f old
+sums-same f old new same = sym (sum-map f new) ∙ ap sum same ∙ sum-map f old
 
-still-answered : (p : Protocol) (old new : List Worker) → length new ≡ length old → ((o : ℕ) (a b : Worker) → slice_get old o ≡ Some a → slice_get new o ≡ Some b → DoesNothing p a b) → all_answered new ≡ all_answered old
-still-answered p [] [] count each = refl
-still-answered p [] (b ∷ new) count each = absurd (omega (arith, count))
-still-answered p (a ∷ old) [] count each = absurd (omega (arith, count))
-still-answered p (a ∷ old) (b ∷ new) count each =
-    let less : length new ≡ length old = omega (arith, count) in
-    let rest = still-answered p old new less (λ o x y here there. each (suc o) x y here there) in
-    let lines = (each 0 a b refl refl).lines in
-    let first = answered-same a.lines b.lines lines.count (λ l x y at this. ap (λ (line : OnLine). line.answers) (lines.each l x y at this).same) in
-    omega (arith, rest, first)
+-- workers that do nothing stay at rest, and keep their answers
+module _ (p : Protocol) (old new : List Worker) (still : AreChanged (λ o. DoesNothing p) old new) where
+  -- what is told of each line alone, and doesn't speak of its ends, is the same
+  each-same : {B : Type 0} (f : OnLine → B) → ((line : OnLine) (ends : Ends) → f (record line { ends = ends }) ≡ f line) → (o : ℕ) (a b : Worker) → slice_get old o ≡ Some a → slice_get new o ≡ Some b → map f b.lines ≡ map f a.lines
+  each-same f free o a b here there =
+      let lines = (still.each o a b here there).lines in
+      maps-same f a.lines b.lines lines.count (λ l x y at this. ap f (lines.each l x y at this).same ∙ free x y.ends)
+
+  still-rest : all_at_rest new ≡ all_at_rest old
+  still-rest =
+      alls-same (λ (w : Worker). list_all is_at_rest w.lines) old new
+      (maps-same (λ (w : Worker). list_all is_at_rest w.lines) old new still.count (λ o a b here there. alls-same is_at_rest a.lines b.lines (each-same is_at_rest (λ line ends. refl) o a b here there)))
+
+  still-answered : all_answered new ≡ all_answered old
+  still-answered =
+      sums-same (λ (w : Worker). answered_by w.lines) old new
+      (maps-same (λ (w : Worker). answered_by w.lines) old new still.count (λ o a b here there. sums-same answers_of a.lines b.lines (each-same answers_of (λ line ends. refl) o a b here there)))
 
 -- a sum with its first number apart
 total-more : (n : ℕ) (f : ℕ → ℕ) → total (suc n) f ≡ f 0 + total n (λ i. f (suc i))
 total-more zero f = omega arith
 total-more (suc n) f = let rest = total-more n f in omega (arith, rest)
 
--- the answers of an object on a line, if its worker has it
-abbrev answers_of : Option OnLine → ℕ
-answers_of found = length (option_map_or (λ line. line.answers) found [])
+-- a sum over a list, by the places of its elements
+by-places : {A : Type 0} (f : A → ℕ) (xs : List A) → total (length xs) (λ i. option_map_or f (slice_get xs i) 0) ≡ sum_by f xs
+by-places f [] = refl
+by-places f (x ∷ xs) =
+    let more = total-more (length xs) (λ i. option_map_or f (slice_get (x ∷ xs) i) 0) in
+    let rest = by-places f xs in
+    let split = sum_by-cons f x xs in
+    omega (arith, more, rest, split)
 
-lines-answered : (lines : List OnLine) → total (length lines) (λ l. answers_of (slice_get lines l)) ≡ answered_by lines
-lines-answered [] = refl
-lines-answered (line ∷ lines) =
-    let more = total-more (length lines) (λ l. answers_of (slice_get (line ∷ lines) l)) in
-    let rest = lines-answered lines in
-    omega (arith, more, rest)
-
-crew-answered : (crew : List Worker) (n : ℕ) → ((o : ℕ) (w : Worker) → slice_get crew o ≡ Some w → length w.lines ≡ n) → total (length crew) (λ o. total n (λ l. answers_of (line_of crew l o))) ≡ all_answered crew
-crew-answered [] n each = refl
-crew-answered (w ∷ crew) n each =
-    let more = total-more (length crew) (λ o. total n (λ l. answers_of (line_of (w ∷ crew) l o))) in
-    let rest = crew-answered crew n (λ o v at. each (suc o) v at) in
-    let first : total n (λ l. answers_of (slice_get w.lines l)) ≡ answered_by w.lines = ap (λ m. total m (λ l. answers_of (slice_get w.lines l))) (sym (each 0 w refl)) ∙ lines-answered w.lines in
-    omega (arith, more, rest, first)
+-- the answers of workers that have so many lines, by line and object
+crew-answered : (crew : List Worker) (n : ℕ) → ((o : ℕ) (w : Worker) → slice_get crew o ≡ Some w → length w.lines ≡ n) → total (length crew) (λ o. total n (λ l. option_map_or answers_of (line_of crew l o) 0)) ≡ all_answered crew
+crew-answered crew n each =
+    total_same (length crew) (λ o. total n (λ l. option_map_or answers_of (line_of crew l o) 0)) (λ o. option_map_or (λ (w : Worker). answered_by w.lines) (slice_get crew o) 0) (λ o. by_worker o (slice_get crew o) refl)
+    ∙ by-places (λ (w : Worker). answered_by w.lines) crew
+  where
+    by_worker : (o : ℕ) (found : Option Worker) → slice_get crew o ≡ found → total n (λ l. option_map_or answers_of (option_and_then (λ (w : Worker). slice_get w.lines l) found) 0) ≡ option_map_or (λ (w : Worker). answered_by w.lines) found 0
+    by_worker o None at = total_none n
+    by_worker o (Some w) at = ap (λ m. total m (λ l. option_map_or answers_of (slice_get w.lines l) 0)) (sym (each o w at)) ∙ by-places answers_of w.lines
 
 module _ (p : Protocol) (tree : Tree) (work : Work) (protocol : IsProtocol p) (disciplined : IsDisciplined p) (lawful : IsLawful tree) (fits : IsLawfulWork p tree work) (crew : List Worker) (end : IsAtEnd p tree (start p tree work) work.self_count channel_slots crew) where
   abbrev begun : State
@@ -251,18 +241,17 @@ module _ (p : Protocol) (tree : Tree) (work : Work) (protocol : IsProtocol p) (d
           rw (lock, none) refl
 
   -- the answers in that state are those of the workers
-  answers-there : (l o : ℕ) (line : Line) → slice_get begun l ≡ Some line → o < length tree → answers_at state l o ≡ answers_of (line_of end.idle l o)
+  answers-there : (l o : ℕ) (line : Line) → slice_get begun l ≡ Some line → o < length tree → answers_at state l o ≡ option_map_or answers_of (line_of end.idle l o) 0
   answers-there l o line at inside =
       let size = sized l line at in
       let cell = get_within line o (omega (arith, size, inside)) in
       let now = has-line l o line cell.0 at cell.1 in
-      let it = held-so l o cell.0 now.0 now.1 in
       let in_state : slice_get state l ≡ Some (held_line tree end.idle l line) = each-at (held_line tree end.idle) begun l ∙ ap (option_map (held_line tree end.idle l)) at in
       let in_line : slice_get (held_line tree end.idle l line) o ≡ Some (held_cell tree end.idle l o cell.0) = each-at (held_cell tree end.idle l) line o ∙ ap (option_map (held_cell tree end.idle l o)) cell.1 in
       let found : cell_at state l o ≡ Some (held_cell tree end.idle l o cell.0) = ap (option_and_then (λ (line : Line). slice_get line o)) in_state ∙ in_line in
-      ap (λ found. option_map_or (λ (cell : Cell). length (list_of cell Answers)) found 0) found
+      ap (λ found. option_map_or (λ (cell : Cell). length (list_of cell Answers)) found 0) found ∙ ap (λ found. length (option_map_or (λ (line : OnLine). line.answers) found [])) now.1 ∙ sym (ap (λ found. option_map_or answers_of found 0) now.1)
 
-  line-answers : (l : ℕ) → l < work.lines → answers_on state l ≡ total (length tree) (λ o. answers_of (line_of end.idle l o))
+  line-answers : (l : ℕ) → l < work.lines → answers_on state l ≡ total (length tree) (λ o. option_map_or answers_of (line_of end.idle l o) 0)
   line-answers l inside =
       let lines = start-lines p tree work in
       let line = get_within begun l (omega (arith, lines, inside)) in
@@ -270,15 +259,15 @@ module _ (p : Protocol) (tree : Tree) (work : Work) (protocol : IsProtocol p) (d
       let is : slice_index_or state l [] ≡ held_line tree end.idle l line.0 = index-there state l (held_line tree end.idle l line.0) [] in_state in
       let size : length (slice_index_or state l []) ≡ length tree = ap length is ∙ length-map_each (held_cell tree end.idle l) 0 line.0 ∙ sized l line.0 line.1 in
       ap (λ n. total n (answers_at state l)) size
-      ∙ total_same_below (length tree) (answers_at state l) (λ o. answers_of (line_of end.idle l o)) (λ o there. answers-there l o line.0 line.1 there)
+      ∙ total_same_below (length tree) (answers_at state l) (λ o. option_map_or answers_of (line_of end.idle l o) 0) (λ o there. answers-there l o line.0 line.1 there)
 
   answers-same : answers_in state ≡ all_answered end.idle
   answers-same =
       let lines : length state ≡ work.lines = length-map_each (held_line tree end.idle) 0 begun ∙ start-lines p tree work in
       ap (λ n. total n (answers_on state)) lines
-      ∙ total_same_below work.lines (answers_on state) (λ l. total (length tree) (λ o. answers_of (line_of end.idle l o))) line-answers
-      ∙ total_swap work.lines (length tree) (λ l o. answers_of (line_of end.idle l o))
-      ∙ ap (λ n. total n (λ o. total work.lines (λ l. answers_of (line_of end.idle l o)))) (sym idle-crew.count)
+      ∙ total_same_below work.lines (answers_on state) (λ l. total (length tree) (λ o. option_map_or answers_of (line_of end.idle l o) 0)) line-answers
+      ∙ total_swap work.lines (length tree) (λ l o. option_map_or answers_of (line_of end.idle l o) 0)
+      ∙ ap (λ n. total n (λ o. total work.lines (λ l. option_map_or answers_of (line_of end.idle l o) 0))) (sym idle-crew.count)
       ∙ crew-answered end.idle work.lines (λ o w at. (idle-crew.each o w at).lines ∙ start-lines p tree work)
 
   -- so what the workers come to is what the history comes to
@@ -289,8 +278,8 @@ module _ (p : Protocol) (tree : Tree) (work : Work) (protocol : IsProtocol p) (d
         journal = history;
         end = state;
         run = ran;
-        quiet_is = still-rest p end.idle crew still.count still.each ∙ same-truth (all_at_rest end.idle) (is_quiet state) quiet-by-rest rest-by-quiet;
-        answers_are = still-answered p end.idle crew still.count still.each ∙ sym answers-same;
+        quiet_is = still-rest p end.idle crew still ∙ same-truth (all_at_rest end.idle) (is_quiet state) quiet-by-rest rest-by-quiet;
+        answers_are = still-answered p end.idle crew still ∙ sym answers-same;
       }
 
 -- and what is told of a crew that is the same is the tally

@@ -1,5 +1,5 @@
 -- What a whole run comes to, and how that is read off the workers at its end.
-use Rattle.std.specs.Prelude.{ℕ, ◌≡◌, ◌+◌, Bool, ◌&&◌, List, [], ◌∷◌, length, slice_index_or}
+use Rattle.std.specs.Prelude.{ℕ, ◌≡◌, Bool, ◌&&◌, List, [], length, sum_by, slice_index_or}
 use Rattle.std.specs.Option.{option_map_or}
 use Rattle.std.specs.List.{list_all}
 use Rattle.hem_base.specs.declared.ids.Firing.{Firing}
@@ -44,10 +44,8 @@ all_at_rest crew = list_all (λ w. list_all is_at_rest w.lines) crew
 
 -- how many answers an object has on all its lines
 abbrev pub answered_by : List OnLine → ℕ
-answered_by [] = 0
-answered_by (line ∷ lines) = length line.answers + answered_by lines
+answered_by lines = sum_by (λ line. length line.answers) lines
 
 -- how many answers all objects of a crew have
 abbrev pub all_answered : List Worker → ℕ
-all_answered [] = 0
-all_answered (w ∷ crew) = answered_by w.lines + all_answered crew
+all_answered crew = sum_by (λ w. answered_by w.lines) crew
