@@ -1,6 +1,7 @@
 -- Turns of a crew, up to the last.
-use Rattle.std.proofs.Common.{◌≡◌, ap, ◌∙◌, subst, ℕ, ◌+◌, ◌≤◌, arith, Bool, false, cond, nat_lt, List, length, Some, ⊎_elim}
+use Rattle.std.proofs.Common.{◌≡◌, ap, ◌∙◌, subst, ℕ, ◌+◌, ◌≤◌, arith, Bool, false, cond, nat_lt, List, ◌++◌, take, drop, length, Some, ⊎_elim}
 use Rattle.std.specs.Prelude.{slice_get}
+use Rattle.std.proofs.Math.Seq.{take-append_seam}
 use Rattle.hem_syntax.specs.Protocol.{Protocol}
 use Rattle.hem_syntax.specs.Lawful.{IsProtocol}
 use Rattle.hem_check.specs.Discipline.{IsDisciplined}
@@ -80,3 +81,13 @@ end-lines p tree work k slots crew end o w at =
 
 pub crew-of : (p : Protocol) (tree : Tree) (begun : State) (k slots : ℕ) (crew : List Worker) → IsCrew p tree begun k slots crew → IsCrewOf tree crew
 crew-of p tree begun k slots crew is = record { p = p; begun = begun; k = k; slots = slots; is = is }
+
+-- a vector whose slice was left by a run has that crew
+pub crew-left : (p : Protocol) (tree : Tree) (work : Work) (slots n : ℕ) (old crew : List Worker) → n ≡ length old → IsCrew p tree (start p tree work) work.self_count slots old → IsAtEnd p tree (start p tree work) work.self_count slots crew → take n (crew ++ drop (length crew) old) ≡ crew
+crew-left p tree work slots n old crew size was end =
+    let idle = rounds-keep p tree (start p tree work) work.self_count slots false end.known end.idle end.is end.round in
+    let same = end.settled.still.count in
+    let now = idle.count in
+    let before = was.count in
+    let long : n ≡ length crew = omega (arith, size, same, now, before) in
+    ap (λ n. take n (crew ++ drop (length crew) old)) long ∙ take-append_seam crew (drop (length crew) old)

@@ -1,5 +1,5 @@
 -- The history of a crew at its end.
-use Rattle.std.proofs.Common.{◌≡◌, ap, sym, ◌∙◌, subst, ℕ, ◌+◌, ◌*◌, ◌≤◌, arith, false, List, length, Some, Result, Ok, Err}
+use Rattle.std.proofs.Common.{◌≡◌, sym, ◌∙◌, subst, ◌+◌, ◌*◌, ◌≤◌, arith, false, List, length, Some, Result, Ok, Err}
 use Rattle.std.specs.Prelude.{IfOk}
 use Rattle.std.proofs.lemmas.Option.{same_Some}
 use Rattle.hem_base.specs.declared.ids.Firing.{Firing}
@@ -17,14 +17,12 @@ use Rattle.hem_bound.specs.Starts.{IsWithin, requests_in}
 use Rattle.hem_bound.proofs.Selfs.{firings_few}
 use Rattle.hem_walk.proofs.Counting.{counts_same}
 use Rattle.hem_merge.specs.Journals.{IsMerged}
-use Rattle.hem_worker.specs.Workers.{Worker}
 use Rattle.hem_crew.specs.Crew.{journals_of}
 use Rattle.hem_crew.specs.Held.{held}
 use Rattle.hem_crew.proofs.Kept.{rounds-keep, journals-stay}
 use Rattle.hem_crew.proofs.Merging.{crew-runs, crew-within}
 use Rattle.hem_idle.proofs.IdleRound.{round-knows}
 use Rattle.hem_idle.proofs.End.{idle-ended}
-use Rattle.hem_runner.specs.Rounds.{IsAtEnd}
 use Rattle.hem_runner.specs.Runs.{channel_slots, AreLastJournals, IsWholeHistory, IsRun}
 
 -- the merged journals of a crew at its end lead to the state that it holds, and that is an end
@@ -59,10 +57,6 @@ run-few p tree work h state disciplined lawful is = firings_few p tree work work
   where
     few : IsWithin p tree work.self_count h
     few = record { few = λ l o. (let same = counts_same p tree h l o in let within = is.within l o in omega (arith, same, within)) }
-
--- the journals that were taken out of a crew at its end
-pub last-journals : (p : Protocol) (tree : Tree) (work : Work) (crew : List Worker) (lines : ℕ) (journals : List (List Stamped)) → IsAtEnd p tree (start p tree work) work.self_count channel_slots crew → lines ≡ work.lines → journals ≡ journals_of lines crew → AreLastJournals p tree work journals
-last-journals p tree work crew lines journals end same are = record { crew = crew; ended = end; are = are ∙ ap (λ n. journals_of n crew) same }
 
 -- what follows from a fact of what a call gave
 pub if-ok-more : {A B : Type 0} (P Q : A → Type 0) (r : Result A B) → ((a : A) → P a → Q a) → IfOk r P → IfOk r Q

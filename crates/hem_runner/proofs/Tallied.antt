@@ -1,9 +1,8 @@
 -- What the workers hold at the end of a run is what the run comes to.
-use Rattle.std.proofs.Common.{◌≡◌, refl, ap, sym, ◌∙◌, subst, ℕ, zero, suc, ◌+◌, ◌<◌, arith, Bool, true, false, List, [], ◌∷◌, ◌++◌, map, take, drop, length, Option, Some, None}
+use Rattle.std.proofs.Common.{◌≡◌, refl, ap, sym, ◌∙◌, subst, ℕ, zero, suc, ◌+◌, ◌<◌, arith, Bool, true, false, List, [], ◌∷◌, map, length, Option, Some, None}
 use Rattle.std.specs.Prelude.{slice_get, slice_index_or, sum, sum_by, option_map, option_and_then, is_none, IfOk, IfSome}
 use Rattle.std.specs.Option.{option_map_or, ok_or}
 use Rattle.std.specs.List.{list_all}
-use Rattle.std.proofs.Math.Seq.{take-append_seam}
 use Rattle.std.proofs.lemmas.List.Sums.{sum_by-cons, sum-map}
 use Rattle.std.proofs.lemmas.List.Folds.{list_all-map}
 use Rattle.hem_ends.specs.Ends.{Ends}
@@ -282,17 +281,7 @@ module _ (p : Protocol) (tree : Tree) (work : Work) (protocol : IsProtocol p) (d
         answers_are = still-answered p end.idle crew still ∙ sym answers-same;
       }
 
--- and what is told of a crew that is the same is the tally
-pub tally-told : {E : Type 0} (p : Protocol) (tree : Tree) (work : Work) (crew left : List Worker) (found : Option Tally) (e : E) → IsTally p tree work (all_at_rest crew) (all_answered crew) → left ≡ crew → IfSome found (λ t. t.quiet ≡ all_at_rest left) → IfSome found (λ t. t.answers ≡ all_answered left) → IfOk (ok_or found e) (λ t. IsTally p tree work t.quiet t.answers)
-tally-told p tree work crew left None e is same rest count = tt
-tally-told p tree work crew left (Some t) e is same rest count = record { journal = is.journal; end = is.end; run = is.run; quiet_is = rest ∙ ap all_at_rest same ∙ is.quiet_is; answers_are = count ∙ ap all_answered same ∙ is.answers_are }
-
--- a vector whose slice was left by a run has that crew
-pub crew-left : (p : Protocol) (tree : Tree) (work : Work) (slots n : ℕ) (old crew : List Worker) → n ≡ length old → IsCrew p tree (start p tree work) work.self_count slots old → IsAtEnd p tree (start p tree work) work.self_count slots crew → take n (crew ++ drop (length crew) old) ≡ crew
-crew-left p tree work slots n old crew size was end =
-    let idle = rounds-keep p tree (start p tree work) work.self_count slots false end.known end.idle end.is end.round in
-    let same = end.settled.still.count in
-    let now = idle.count in
-    let before = was.count in
-    let long : n ≡ length crew = omega (arith, size, same, now, before) in
-    ap (λ n. take n (crew ++ drop (length crew) old)) long ∙ take-append_seam crew (drop (length crew) old)
+-- and what is told of them is the tally
+pub tally-told : {E : Type 0} (p : Protocol) (tree : Tree) (work : Work) (crew : List Worker) (found : Option Tally) (e : E) → IsTally p tree work (all_at_rest crew) (all_answered crew) → IfSome found (λ t. t.quiet ≡ all_at_rest crew) → IfSome found (λ t. t.answers ≡ all_answered crew) → IfOk (ok_or found e) (λ t. IsTally p tree work t.quiet t.answers)
+tally-told p tree work crew None e is rest count = tt
+tally-told p tree work crew (Some t) e is rest count = record { journal = is.journal; end = is.end; run = is.run; quiet_is = rest ∙ is.quiet_is; answers_are = count ∙ is.answers_are }

@@ -6,11 +6,10 @@ ghost use Rattle.hem_work.specs.Lawful.{IsLawfulWork};
 ghost use Rattle.hem_system.specs.State.{State, Runs, start};
 ghost use Rattle.hem_system.specs.Ended.{Within, Ended};
 ghost use Rattle.hem_bound.specs.Starts.{requests_in};
-ghost use Rattle.hem_crew.specs.Crew.{IsCrew};
-ghost use Rattle.hem_runner.specs.Runs.{channel_slots, AreLastJournals, IsWholeHistory, IsRun};
+ghost use Rattle.hem_runner.specs.Runs.{AreLastJournals, IsWholeHistory, IsRun};
 
 use crate::journals::take_journals;
-use crate::whole::run_crew;
+use crate::whole::crew_at_end;
 use hem_base::{Firing, Gate, Kind, List, OutOfMemory, Stamped};
 use hem_check::Accepted;
 use hem_merge::merge;
@@ -18,40 +17,15 @@ use hem_syntax::Protocol;
 use hem_system::{ReplayFault, System, replay};
 use hem_tree::Tree;
 use hem_wire::Net;
-use hem_wiring::make_crew;
 use hem_work::Work;
-use hem_worker::Worker;
 use std::alloc::Global;
 use std::thread::Threads;
-
-/// How many slots each channel has.
-pub(crate) const CHANNEL_SLOTS: usize = 4;
 
 /// What the workers made: their journal, and the state to which it leads.
 #[derive(Drop)]
 pub struct Ran {
     pub journal: List<Firing>,
     pub system: System,
-}
-
-/// Has a crew run to its end, and takes its journals.
-fn last_journals<R: Threads + Sync, N: Net + Send, G: Gate>(
-    rt: &R,
-    alloc: Global,
-    p: &Protocol,
-    tree: &Tree,
-    work: &Work,
-    net: &mut N,
-    gate: &G,
-    crew: &mut [Worker<N>],
-) -> Result<List<List<Stamped>>, OutOfMemory>
-    requires disciplined { IsDisciplined p.now }
-    requires lawful { IsLawfulWork p.now tree.now work.now }
-    requires crew { IsCrew p.now tree.now (start p.now tree.now work.now) work.now.self_count channel_slots crew.old }
-    ensures { IfOk result (AreLastJournals p.now tree.now work.now) }
-{
-    run_crew(rt, p, tree, work, net, gate, crew)?;
-    take_journals(alloc, work.lines(), crew)
 }
 
 /// The journals of a crew that ran to its end, merged into its history.
@@ -73,7 +47,7 @@ fn merged(
     merge(alloc, journals)
 }
 
-/// Makes a crew and has it run to its end.
+/// Has a crew run to its end, and merges its journals.
 fn history_of<R: Threads + Sync, N: Net + Send, G: Gate>(
     rt: &R,
     alloc: Global,
@@ -87,8 +61,8 @@ fn history_of<R: Threads + Sync, N: Net + Send, G: Gate>(
     requires lawful { IsLawfulWork p.now tree.now work.now }
     ensures { IfOk result (λ history. IsWholeHistory p.now tree.now work.now history.items) }
 {
-    let mut crew = make_crew(alloc, p, tree, work, net, CHANNEL_SLOTS)?;
-    let journals = last_journals(rt, alloc, p, tree, work, net, gate, crew.as_mut_slice())?;
+    let mut crew = crew_at_end(rt, alloc, p, tree, work, net, gate)?;
+    let journals = take_journals(alloc, work.lines(), crew.as_mut_slice())?;
     merged(alloc, p, tree, work, journals.as_slice())
 }
 

@@ -6,15 +6,13 @@ ghost use Rattle.hem_check.specs.Discipline.{IsDisciplined};
 ghost use Rattle.hem_work.specs.Lawful.{IsLawfulWork};
 ghost use Rattle.hem_runner.specs.Tally.{IsTally, is_at_rest, all_at_rest, answered_by, all_answered};
 
-use crate::running::CHANNEL_SLOTS;
-use crate::whole::run_crew;
+use crate::whole::crew_at_end;
 use hem_base::{Gate, Kind, OutOfMemory};
 use hem_check::Accepted;
 use hem_syntax::Protocol;
 use hem_tree::Tree;
 use hem_turns::OnLine;
 use hem_wire::Net;
-use hem_wiring::make_crew;
 use hem_work::Work;
 use hem_worker::Worker;
 use std::alloc::Global;
@@ -83,8 +81,7 @@ fn tally_work<R: Threads + Sync, N: Net + Send, G: Gate>(
     // That the protocol is one, and the tree lawful.
     let _part = p.part(Kind::Root);
     let _objects = tree.objects();
-    let mut crew = make_crew(alloc, p, tree, work, net, CHANNEL_SLOTS)?;
-    run_crew(rt, p, tree, work, net, gate, crew.as_mut_slice())?;
+    let crew = crew_at_end(rt, alloc, p, tree, work, net, gate)?;
     tally_of(crew).ok_or(OutOfMemory)
 }
 

@@ -15,9 +15,14 @@ use hem_base::{Gate, Kind, OutOfMemory};
 use hem_syntax::Protocol;
 use hem_tree::Tree;
 use hem_wire::Net;
+use hem_wiring::make_crew;
 use hem_work::Work;
 use hem_worker::Worker;
+use std::alloc::Global;
 use std::thread::Threads;
+
+/// How many slots each channel has.
+const CHANNEL_SLOTS: usize = 4;
 
 /// How many firings there is room for at once, on all lines of all objects together.
 const ROOM: u64 = 262_144;
@@ -63,7 +68,7 @@ fn turn_once<R: Threads + Sync, N: Net + Send, G: Gate>(
 
 /// Turns until one in which no worker fires, and then settles all edges once more. The first goes over threads, and each
 /// after one with many firings.
-pub(crate) fn run_crew<R: Threads + Sync, N: Net + Send, G: Gate>(
+fn run_crew<R: Threads + Sync, N: Net + Send, G: Gate>(
     rt: &R,
     p: &Protocol,
     tree: &Tree,
@@ -93,4 +98,23 @@ pub(crate) fn run_crew<R: Threads + Sync, N: Net + Send, G: Gate>(
     }
     settle_all(net, tree, crew);
     unreachable!()
+}
+
+/// Makes a crew and has it run to its end.
+pub(crate) fn crew_at_end<R: Threads + Sync, N: Net + Send, G: Gate>(
+    rt: &R,
+    alloc: Global,
+    p: &Protocol,
+    tree: &Tree,
+    work: &Work,
+    net: &mut N,
+    gate: &G,
+) -> Result<Vec<Worker<N>>, OutOfMemory>
+    requires disciplined { IsDisciplined p.now }
+    requires lawful { IsLawfulWork p.now tree.now work.now }
+    ensures { IfOk result (λ crew. IsAtEnd p.now tree.now (start p.now tree.now work.now) work.now.self_count channel_slots crew.items) }
+{
+    let mut crew = make_crew(alloc, p, tree, work, net, CHANNEL_SLOTS)?;
+    run_crew(rt, p, tree, work, net, gate, crew.as_mut_slice())?;
+    Ok(crew)
 }
